@@ -1,0 +1,114 @@
+-- One step of the search for a text, and what finding none means. Assumes nothing.
+use mathlib.Core.Path.{_≡_, refl, sym, ap, _∙_}
+use mathlib.Core.Bool.{Bool, true, false, cond, not, _&&_, _||_}
+use mathlib.Core.List.{List, [], _∷_, _++_}
+use mathlib.Core.Logic.{inl, inr}
+use Prim.Native.Nat.{ℕ, zero, suc, _+_, _<_}
+use native.Mathlib.Omega.{arith}
+use native.Mathlib.Nat.{zero-add, add-zero}
+use lib.ListN.{length, drop, getD}
+use Rattle.std.specs.Holes.{between}
+use Rattle.std.specs.Orderings.{Decides}
+use Rattle.std.specs.shelf.Text.{sameBytes}
+use Rattle.std.specs.declared.option.Option.{Option}
+use Rattle.std.specs.declared.option.Option.the-variants.{Some, None}
+use Rattle.std.proofs.shelf.Equals.{sameBytes-decides}
+use Rattle.std.proofs.shelf.Ways.{same-from-decides}
+use Rattle.std.proofs.shelf.Lists.{drop-more}
+use Rattle.std.proofs.shelf.Tests.{and-parts, and-from, or-parts, or-from, or-left, or-right, not-true, not-from-false, cond-true, cond-false, cases-bool, both-ways, false≢true}
+use Rattle.names.specs.declared.qualified.Name.{Name}
+use Rattle.names.specs.Names.{numbered}
+use Rattle.names.specs.Cuts.{chained, cuts}
+use Rattle.names.specs.Texts.{seek, contains, distinct, begins, Only-number}
+use Rattle.names.proofs.Cutting.{Front, front}
+
+-- the text that the loop has come to lies within the bytes
+pub front-at : (xs es : List ℕ) (i f n : ℕ) → xs ≡ es → i < length xs → chained f (drop i es) n ≡ true → Front f (getD xs i 0) (drop (i + 1) es) n
+front-at xs es i f n e lt h =
+    let l : i < length es = omega (arith, ap length e) in
+    let g : chained f (getD es i 0 ∷ drop (i + 1) es) n ≡ true = ap (λ x. chained f x n) (sym (drop-more es i 0 l)) ∙ h in
+    rw e (front f (getD es i 0) (drop (i + 1) es) n g)
+
+-- the loop compares the text that it has come to, and stops or goes on
+module _ (xs es raw bs t : List ℕ) (i f : ℕ) (r : Bool) (e : xs ≡ es) (v : raw ≡ bs) (lt : i < length xs) (d : Decides r (between f (getD xs i 0) raw ≡ t)) where
+  step : seek i (cuts f (drop i es) bs) t ≡ cond r (Some (numbered i)) (seek (i + 1) (cuts (getD xs i 0) (drop (i + 1) es) bs) t)
+  step =
+      let l : i < length es = omega (arith, ap length e) in
+      let same : sameBytes (between f (getD xs i 0) bs) t ≡ r = same-from-decides _ _ (sameBytes-decides _ _) (rw v at d) in
+      ap (λ x. seek i (cuts f x bs) t) (drop-more es i 0 l)
+      ∙ ap (λ x. cond (sameBytes (between f (getD x i 0) bs) t) (Some (numbered i)) (seek (i + 1) (cuts (getD x i 0) (drop (i + 1) es) bs) t)) (sym e)
+      ∙ ap (λ x. cond x (Some (numbered i)) (seek (i + 1) (cuts (getD xs i 0) (drop (i + 1) es) bs) t)) same
+
+  pub seek-here : r ≡ true → seek i (cuts f (drop i es) bs) t ≡ Some (numbered i)
+  seek-here h = step ∙ cond-true r _ _ h
+
+  pub seek-on : r ≡ false → seek i (cuts f (drop i es) bs) t ≡ seek (i + 1) (cuts (getD xs i 0) (drop (i + 1) es) bs) t
+  seek-on h = step ∙ cond-false r _ _ h
+
+same-refl : (t : List ℕ) → sameBytes t t ≡ true
+same-refl t = sameBytes-decides t t .1 refl
+
+same-sym : (t u : List ℕ) → sameBytes t u ≡ sameBytes u t
+same-sym t u = same-from-decides _ _ (sameBytes-decides t u) ((λ h. sym (sameBytes-decides u t .0 h)), (λ e. sameBytes-decides u t .1 (sym e)))
+
+never : {A : Type 0} (x : A) → None ≡ Some x → ⊥
+never x h = let z : _≡_ {A = ℕ} 0 1 = cc in omega arith
+
+-- a search that finds none has passed every text
+pub none-contained : (i : ℕ) (ts : List (List ℕ)) (t : List ℕ) → None ≡ seek i ts t → contains ts t ≡ false
+none-contained i [] t h = refl
+none-contained i (u ∷ us) t h =
+    elim (cases-bool (sameBytes u t)) [
+      | inl y ↦ absurd (never (numbered i) (h ∙ cond-true _ _ _ y))
+      | inr n ↦ or-from _ _ n (none-contained (i + 1) us t (h ∙ cond-false _ _ _ n))
+    ]
+
+-- a text that stands at a place is contained
+contained-at : (ts : List (List ℕ)) (t : List ℕ) (n : ℕ) → n < length ts → getD ts n [] ≡ t → contains ts t ≡ true
+contained-at [] t n lt e = absurd (omega arith)
+contained-at (u ∷ us) t zero lt e = or-left _ _ (sameBytes-decides u t .1 e)
+contained-at (u ∷ us) t (suc n) lt e = or-right (sameBytes u t) _ (contained-at us t n (omega arith) e)
+
+-- where no text stands twice, the search finds the place of the text, whichever it is
+seek-at : (i : ℕ) (ts : List (List ℕ)) (t : List ℕ) (n : ℕ) → distinct ts ≡ true → n < length ts → getD ts n [] ≡ t → seek i ts t ≡ Some (numbered (i + n))
+seek-at i [] t n d lt e = absurd (omega arith)
+seek-at i (u ∷ us) t zero d lt e =
+    cond-true _ _ _ (sameBytes-decides u t .1 e) ∙ ap (λ k. Some (numbered k)) (sym (add-zero i))
+seek-at i (u ∷ us) t (suc n) d lt e =
+    let p = and-parts (not (contains us u)) (distinct us) d in
+    let inner : contains us t ≡ true = contained-at us t n (omega arith) e in
+    let other : sameBytes u t ≡ false = elim (cases-bool (sameBytes u t)) [
+      | inl y ↦ absurd (both-ways (contains us t) (ap (contains us) (sym (sameBytes-decides u t .0 y)) ∙ not-true _ (p .0)) inner)
+      | inr m ↦ m
+    ] in
+    let next : i + 1 + n ≡ i + suc n = omega arith in
+    cond-false _ _ _ other ∙ seek-at (i + 1) us t n (p .1) (omega arith) e ∙ ap (λ k. Some (numbered k)) next
+
+pub only-number : (ts : List (List ℕ)) (t : List ℕ) → distinct ts ≡ true → Only-number ts t (seek 0 ts t)
+only-number ts t d n lt e = seek-at 0 ts t n d lt e ∙ ap (λ k. Some (numbered k)) (zero-add n)
+
+contains-push : (ts : List (List ℕ)) (t u : List ℕ) → contains ts u ≡ false → sameBytes t u ≡ false → contains (ts ++ t ∷ []) u ≡ false
+contains-push [] t u h n = or-from _ _ n refl
+contains-push (x ∷ xs) t u h n =
+    let p = or-parts (sameBytes x u) (contains xs u) h in or-from _ _ (p .0) (contains-push xs t u (p .1) n)
+
+-- a new text keeps the texts apart
+pub distinct-push : (ts : List (List ℕ)) (t : List ℕ) → distinct ts ≡ true → contains ts t ≡ false → distinct (ts ++ t ∷ []) ≡ true
+distinct-push [] t d h = refl
+distinct-push (u ∷ us) t d h =
+    let p = and-parts (not (contains us u)) (distinct us) d in
+    let q = or-parts (sameBytes u t) (contains us t) h in
+    and-from _ _ (not-from-false _ (contains-push us t u (not-true _ (p .0)) (same-sym t u ∙ q .0))) (distinct-push us t (p .1) (q .1))
+
+-- and what stands first stays first
+pub begins-push : (us ts : List (List ℕ)) (t : List ℕ) → begins us ts ≡ true → begins us (ts ++ t ∷ []) ≡ true
+begins-push [] ts t h = refl
+begins-push (u ∷ us) [] t h = absurd (false≢true h)
+begins-push (u ∷ us) (x ∷ xs) t h =
+    let p = and-parts (sameBytes u x) (begins us xs) h in and-from _ _ (p .0) (begins-push us xs t (p .1))
+
+pub begins-at : (us ts : List (List ℕ)) (n : ℕ) → begins us ts ≡ true → n < length us → getD ts n [] ≡ getD us n []
+begins-at [] ts n h lt = absurd (omega arith)
+begins-at (u ∷ us) [] n h lt = absurd (false≢true h)
+begins-at (u ∷ us) (x ∷ xs) zero h lt = sym (sameBytes-decides u x .0 (and-parts (sameBytes u x) (begins us xs) h .0))
+begins-at (u ∷ us) (x ∷ xs) (suc n) h lt = begins-at us xs n (and-parts (sameBytes u x) (begins us xs) h .1) (omega arith)

@@ -1,0 +1,9 @@
+pub mod Names
+pub mod Spans
+pub mod Errors
+pub mod Refusals
+pub mod BuiltIn
+pub mod Texts
+pub mod Cuts
+pub mod Held
+pub mod Table

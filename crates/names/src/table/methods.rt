@@ -1,0 +1,84 @@
+// What a name table does.
+ghost use mathlib.Core.Path.{_≡_};
+ghost use lib.ListN.{length};
+ghost use Rattle.std.specs.Options.{mapped};
+ghost use Rattle.std.specs.Vec.{made};
+ghost use Rattle.names.specs.BuiltIn.{builtIn, Begins-built-in};
+ghost use Rattle.names.specs.Held.{held};
+ghost use Rattle.names.specs.Table.{texts};
+ghost use Rattle.names.specs.Texts.{seek, textAt, entered, after, Only-number, Keeps-numbers};
+use super::NameTable;
+use crate::qualified::Name;
+use crate::refusals::NameFault;
+use crate::store::MOST_BYTES;
+use crate::store::MOST_NAMES;
+use crate::store::TextStore;
+use std::alloc::AllocError;
+use std::alloc::Global;
+
+// The texts that every table begins with, in the order of their numbers.
+fn built_in_names(heap: Global) -> Result<TextStore, AllocError>
+    ensures { λ r. ⌜ made r (λ s. held s ≡ builtIn) ⌝ }
+{
+    let mut store = TextStore::new(heap)?;
+    store.push(b"");
+    store.push(b"xml");
+    store.push(b"xmlns");
+    store.push(b"script");
+    store.push(b"http://www.w3.org/XML/1998/namespace");
+    store.push(b"http://www.w3.org/2000/xmlns/");
+    Ok(store)
+}
+
+impl NameTable {
+    // A table of the six built-in names. It takes all the memory that it will ever use.
+    pub fn new(heap: Global) -> Result<NameTable, AllocError>
+        ensures { λ r. ⌜ made r (λ t. texts t ≡ builtIn) ⌝ }
+    {
+        let store = built_in_names(heap)?;
+        Ok(NameTable { store })
+    }
+
+    // How many names the table holds.
+    pub fn len(&self) -> usize
+        ensures { λ r. ⌜ r ≡ length (texts (now (self .entry))) ⌝ }
+    {
+        self.store.len()
+    }
+
+    // The number of a text, if the table holds it.
+    pub fn find(&self, text: &[u8]) -> Option<Name>
+        ensures value { λ r. ⌜ r ≡ seek 0 (texts (now (self .entry))) (now (text .entry)) ⌝ }
+        ensures only { λ r. ⌜ Only-number (texts (now (self .entry))) (now (text .entry)) r ⌝ }
+    {
+        self.store.find(text)
+    }
+
+    // The text of a number, if the table has gone so far.
+    pub fn text(&self, name: Name) -> Option<&[u8]>
+        ensures value { λ r. ⌜ mapped now r ≡ textAt (texts (now (self .entry))) (name .0) ⌝ }
+        ensures built_in { λ _. ⌜ Begins-built-in (texts (now (self .entry))) ⌝ }
+    {
+        self.store.text(name.0 as usize)
+    }
+
+    // The number of a text, which is entered if it is new. A text that the table holds is never refused.
+    pub fn enter(&mut self, text: &[u8]) -> Result<Name, NameFault>
+        ensures result { λ r. ⌜ r ≡ entered (texts (now (self .entry))) (now (text .entry)) ⌝ }
+        ensures after { λ _. ⌜ texts (now (self .exit)) ≡ after (texts (now (self .entry))) (now (text .entry)) ⌝ }
+        ensures numbers { λ _. ⌜ Keeps-numbers (texts (now (self .entry))) (texts (now (self .exit))) ⌝ }
+    {
+        if let Some(name) = self.store.find(text) {
+            return Ok(name);
+        }
+        let held = self.store.len();
+        if held >= MOST_NAMES {
+            return Err(NameFault::TooManyNames { held });
+        }
+        if text.len() > MOST_BYTES - self.store.bytes() {
+            return Err(NameFault::TooManyBytes { held });
+        }
+        self.store.push(text);
+        Ok(Name(held as u16))
+    }
+}
