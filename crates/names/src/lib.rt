@@ -16,6 +16,8 @@ pub use qualified::NamePartialEq;
 pub use qualified::QualName;
 pub use qualified::QualNameEq;
 pub use qualified::QualNamePartialEq;
+pub use qualified::XML_URI;
+pub use qualified::XMLNS_URI;
 pub use refusals::Layer;
 pub use refusals::NameFault;
 pub use refusals::Refusal;

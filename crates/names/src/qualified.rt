@@ -6,6 +6,26 @@ ghost use Rattle.names.specs.Names.{expandedOf};
 #[derive(Clone, Copy, PartialEq, Eq)]
 pub struct Name(pub u16);
 
+// The texts of the two namespaces that are bound in every document.
+pub const XML_URI: &[u8] = b"http://www.w3.org/XML/1998/namespace";
+
+pub const XMLNS_URI: &[u8] = b"http://www.w3.org/2000/xmlns/";
+
+// The numbers that every table gives the built-in names.
+impl Name {
+    pub const EMPTY: Name = Name(0);
+
+    pub const XML: Name = Name(1);
+
+    pub const XMLNS: Name = Name(2);
+
+    pub const SCRIPT: Name = Name(3);
+
+    pub const XML_URI: Name = Name(4);
+
+    pub const XMLNS_URI: Name = Name(5);
+}
+
 // A name as a tag has it. An absent prefix and a present one that is the empty text are two prefixes.
 #[derive(Clone, Copy, PartialEq, Eq)]
 pub struct QualName {

@@ -9,6 +9,8 @@ ghost use Rattle.names.specs.Table.{texts};
 ghost use Rattle.names.specs.Texts.{seek, textAt, entered, after, Only-number, Keeps-numbers};
 use super::NameTable;
 use crate::qualified::Name;
+use crate::qualified::XML_URI;
+use crate::qualified::XMLNS_URI;
 use crate::refusals::NameFault;
 use crate::store::MOST_BYTES;
 use crate::store::MOST_NAMES;
@@ -25,8 +27,8 @@ fn built_in_names(heap: Global) -> Result<TextStore, AllocError>
     store.push(b"xml");
     store.push(b"xmlns");
     store.push(b"script");
-    store.push(b"http://www.w3.org/XML/1998/namespace");
-    store.push(b"http://www.w3.org/2000/xmlns/");
+    store.push(XML_URI);
+    store.push(XMLNS_URI);
     Ok(store)
 }
 

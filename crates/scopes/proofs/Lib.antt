@@ -1,0 +1,6 @@
+pub mod Comparing
+pub mod Stacking
+pub mod Searching
+pub mod Relating
+pub mod Reserving
+pub mod Weighing

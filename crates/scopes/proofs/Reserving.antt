@@ -1,0 +1,126 @@
+-- The built-in bindings, and that no row binds `xml` or `xmlns`. Assumes nothing.
+use mathlib.Core.Path.{_≡_, refl, sym, ap, subst, _∙_}
+use mathlib.Core.Bool.{Bool, true, false, cond, not, _&&_, _||_}
+use mathlib.Core.List.{List, [], _∷_, _++_}
+use mathlib.Core.Logic.{inl, inr}
+use Prim.Native.Nat.{ℕ, _+_}
+use native.Mathlib.Omega.{arith}
+use lib.Dec.{eqb, ltb}
+use lib.ListN.{length}
+use Rattle.std.specs.Options.{orOther, valueOr}
+use Rattle.std.specs.declared.option.Option.{Option}
+use Rattle.std.specs.declared.option.Option.the-variants.{Some, None}
+use Rattle.std.specs.declared.result.Result.the-variants.{Ok, Err}
+use Rattle.std.proofs.shelf.Tests.{cond-true, cond-false, cases-bool, and-parts, and-from, not-true, not-from-false, eqb-true, eqb-false, eq-eqb, ne-eqb, both-ways}
+use Rattle.names.specs.declared.qualified.Name.{Name}
+use Rattle.names.specs.Names.{numbered}
+use Rattle.scopes.specs.declared.bindings.Binding.{Binding}
+use Rattle.scopes.specs.declared.bindings.Found.{Found}
+use Rattle.scopes.specs.declared.bindings.Lookup.{Lookup}
+use Rattle.scopes.specs.declared.bindings.Lookup.the-variants.{Declared, BuiltIn, Unbound}
+use Rattle.scopes.specs.declared.faults.ScopeFault.{ScopeFault}
+use Rattle.scopes.specs.Prefixes.{same, reserved, freeRow, free, builtIns, isBuiltIn}
+use Rattle.scopes.specs.Rows.{size, added, declared, inRow, nearest}
+use Rattle.scopes.specs.Lookups.{builtIn, declaredOr, look}
+use Rattle.scopes.proofs.Comparing.{never, same-decides, bindings-same}
+
+-- there are three built-in bindings
+pub three : (bs : List Binding) → isBuiltIn bs ≡ true → length bs ≡ 3
+three bs h = ap length (bindings-same bs builtIns h)
+
+-- what they say of a prefix
+abbrev pub fromFound : Option Found → Lookup
+fromFound (Some f) = BuiltIn (valueOr (f .ns) (numbered 0))
+fromFound None = Unbound
+
+eqb-sym : (m n : ℕ) → eqb m n ≡ eqb n m
+eqb-sym m n =
+    elim (cases-bool (eqb n m)) [
+      | inl y ↦ eq-eqb m n (sym (eqb-true n m y)) ∙ sym y
+      | inr z ↦ ne-eqb m n (λ e. eqb-false n m z (sym e)) ∙ sym z
+    ]
+
+in-built-ins : (p : Option Name) → fromFound (inRow 0 0 builtIns p) ≡ builtIn p
+in-built-ins None = refl
+in-built-ins (Some n) =
+    elim (cases-bool (eqb (n .0) 1)) [
+      | inl y ↦ ap fromFound (cond-true _ _ _ (eqb-sym 1 (n .0) ∙ y)) ∙ sym (cond-true _ _ _ y)
+      | inr z ↦
+          ap fromFound (cond-false _ _ _ (eqb-sym 1 (n .0) ∙ z))
+          ∙ elim (cases-bool (eqb (n .0) 2)) [
+            | inl y ↦ ap fromFound (cond-true _ _ _ (eqb-sym 2 (n .0) ∙ y)) ∙ sym (cond-true _ _ _ y)
+            | inr w ↦ ap fromFound (cond-false _ _ _ (eqb-sym 2 (n .0) ∙ w)) ∙ sym (cond-false _ _ _ w)
+          ]
+          ∙ sym (cond-false _ _ _ z)
+    ]
+
+pub built-in-found : (bs : List Binding) (p : Option Name) → isBuiltIn bs ≡ true → fromFound (inRow 0 0 bs p) ≡ builtIn p
+built-in-found bs p h = ap (λ l. fromFound (inRow 0 0 l p)) (bindings-same bs builtIns h) ∙ in-built-ins p
+
+-- a row without reserved prefixes gives none of them
+free-row : (k i : ℕ) (bs : List Binding) (p : Option Name) → freeRow bs ≡ true → reserved p ≡ true → inRow k i bs p ≡ None
+free-row k i [] p h r = refl
+free-row k i (b ∷ bs) p h r =
+    let q = and-parts (not (reserved (b .prefix))) (freeRow bs) h in
+    elim (cases-bool (same (b .prefix) p)) [
+      | inl y ↦ absurd (both-ways (reserved p) (ap reserved (sym (same-decides (b .prefix) p .0 y)) ∙ not-true _ (q .0)) r)
+      | inr n ↦ cond-false _ _ _ n ∙ free-row k (i + 1) bs p (q .1) r
+    ]
+
+pub free-nearest : (rows : List (List Binding)) (p : Option Name) → free rows ≡ true → reserved p ≡ true → nearest rows p ≡ None
+free-nearest [] p h r = refl
+free-nearest (row ∷ rows) p h r =
+    let q = and-parts (freeRow row) (free rows) h in
+    ap (λ o. orOther o (nearest rows p)) (free-row (length rows) 0 row p (q .0) r) ∙ free-nearest rows p (q .1) r
+
+-- the look-up in a table, by what its rows give
+pub look-found : (rows : List (List Binding)) (p : Option Name) (f : Found) → free rows ≡ true → Some f ≡ nearest rows p → Declared f ≡ look rows p
+look-found rows p f h e =
+    elim (cases-bool (reserved p)) [
+      | inl y ↦ absurd (never f (sym (e ∙ free-nearest rows p h y)))
+      | inr n ↦ ap (λ o. declaredOr o (builtIn p)) e ∙ sym (cond-false _ _ _ n)
+    ]
+
+pub look-none : (rows : List (List Binding)) (p : Option Name) → None ≡ nearest rows p → builtIn p ≡ look rows p
+look-none rows p e =
+    elim (cases-bool (reserved p)) [
+      | inl y ↦ sym (cond-true _ _ _ y)
+      | inr n ↦ ap (λ o. declaredOr o (builtIn p)) e ∙ sym (cond-false _ _ _ n)
+    ]
+
+-- the same with a tag inside the rows
+pub tag-found : (tag : List Binding) (rows : List (List Binding)) (p : Option Name) (k : ℕ) (f : Found) → k ≡ length rows → reserved p ≡ false → Some f ≡ inRow k 0 tag p → Declared f ≡ look (tag ∷ rows) p
+tag-found tag rows p k f here n e =
+    ap (λ o. declaredOr (orOther o (nearest rows p)) (builtIn p)) (e ∙ ap (λ m. inRow m 0 tag p) here) ∙ sym (cond-false _ _ _ n)
+
+pub tag-none : (tag : List Binding) (rows : List (List Binding)) (p : Option Name) (k : ℕ) → k ≡ length rows → None ≡ inRow k 0 tag p → look rows p ≡ look (tag ∷ rows) p
+tag-none tag rows p k here e =
+    ap (λ o. cond (reserved p) (builtIn p) (declaredOr (orOther o (nearest rows p)) (builtIn p))) (e ∙ ap (λ m. inRow m 0 tag p) here)
+
+pub tag-reserved : (tag : List Binding) (rows : List (List Binding)) (p : Option Name) → reserved p ≡ true → look rows p ≡ look (tag ∷ rows) p
+tag-reserved tag rows p r = cond-true _ _ _ r ∙ sym (cond-true _ _ _ r)
+
+-- a binding of another prefix keeps the rows free
+free-push : (bs : List Binding) (b : Binding) → freeRow bs ≡ true → reserved (b .prefix) ≡ false → freeRow (bs ++ b ∷ []) ≡ true
+free-push [] b h n = and-from _ _ (not-from-false _ n) refl
+free-push (a ∷ bs) b h n =
+    let p = and-parts (not (reserved (a .prefix))) (freeRow bs) h in and-from _ _ (p .0) (free-push bs b (p .1) n)
+
+bad : {A E : Type 0} (x : A) (e : E) → Ok x ≡ Err e → ⊥
+bad x e h = let z : _≡_ {A = ℕ} 0 1 = cc in omega arith
+
+pub free-added : (below : ℕ) (rows us : List (List Binding)) (b : Binding) → Ok us ≡ added below rows b → free rows ≡ true → reserved (b .prefix) ≡ false → free us ≡ true
+free-added below [] us b e h n = absurd (bad _ _ e)
+free-added below (row ∷ rows) us b e h n =
+    let p = and-parts (freeRow row) (free rows) h in
+    elim (cases-bool (ltb (below + size (row ∷ rows)) 256)) [
+      | inl y ↦
+          let g = e ∙ cond-true _ _ _ y in
+          let same-rows : us ≡ (row ++ b ∷ []) ∷ rows = cc in
+          ap free same-rows ∙ and-from _ _ (free-push row b (p .0) n) (p .1)
+      | inr z ↦ absurd (bad _ _ (e ∙ cond-false _ _ _ z))
+    ]
+
+-- what the builder's table adds, above its three bindings
+pub declared-is : (bs : List Binding) (rows : List (List Binding)) (b : Binding) → isBuiltIn bs ≡ true → reserved (b .prefix) ≡ false → added (length bs) rows b ≡ declared rows b
+declared-is bs rows b h n = ap (λ k. added k rows b) (three bs h) ∙ sym (cond-false _ _ _ n)

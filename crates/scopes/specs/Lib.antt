@@ -1,0 +1,9 @@
+pub mod Prefixes
+pub mod Declarations
+pub mod Faults
+pub mod Stacks
+pub mod Rows
+pub mod Held
+pub mod Lookups
+pub mod Scoping
+pub mod Tables
