@@ -6,6 +6,7 @@ use mathlib.Core.Logic.{inl, inr}
 use Prim.Native.Nat.{ℕ, zero, suc, _+_, _<_}
 use native.Mathlib.Omega.{arith}
 use native.Mathlib.Nat.{zero-add, add-zero}
+use lib.Dec.{ltb}
 use lib.ListN.{length, drop, getD}
 use Rattle.std.specs.Holes.{between}
 use Rattle.std.specs.Orderings.{Decides}
@@ -15,11 +16,11 @@ use Rattle.std.specs.declared.option.Option.the-variants.{Some, None}
 use Rattle.std.proofs.shelf.Equals.{sameBytes-decides}
 use Rattle.std.proofs.shelf.Ways.{same-from-decides}
 use Rattle.std.proofs.shelf.Lists.{drop-more}
-use Rattle.std.proofs.shelf.Tests.{and-parts, and-from, or-parts, or-from, or-left, or-right, not-true, not-from-false, cond-true, cond-false, cases-bool, both-ways, false≢true}
+use Rattle.std.proofs.shelf.Tests.{and-parts, and-from, or-parts, or-from, or-left, or-right, not-true, not-from-false, cond-true, cond-false, cases-bool, both-ways, false≢true, lt-ltb, ltb-true}
 use Rattle.names.specs.declared.qualified.Name.{Name}
 use Rattle.names.specs.Names.{numbered}
 use Rattle.names.specs.Cuts.{chained, cuts}
-use Rattle.names.specs.Texts.{seek, contains, distinct, begins, Only-number}
+use Rattle.names.specs.Texts.{seek, contains, distinct, begins, textAt, Number-of}
 use Rattle.names.proofs.Cutting.{Front, front}
 
 -- the text that the loop has come to lies within the bytes
@@ -84,8 +85,44 @@ seek-at i (u ∷ us) t (suc n) d lt e =
     let next : i + 1 + n ≡ i + suc n = omega arith in
     cond-false _ _ _ other ∙ seek-at (i + 1) us t n (p .1) (omega arith) e ∙ ap (λ k. Some (numbered k)) next
 
-pub only-number : (ts : List (List ℕ)) (t : List ℕ) → distinct ts ≡ true → Only-number ts t (seek 0 ts t)
-only-number ts t d n lt e = seek-at 0 ts t n d lt e ∙ ap (λ k. Some (numbered k)) (zero-add n)
+-- the place that the search finds
+record Place (i : ℕ) (ts : List (List ℕ)) (t : List ℕ) (n : ℕ) : Type 0 where
+  offset : ℕ
+  is : n ≡ i + offset
+  below : offset < length ts
+  text : getD ts offset [] ≡ t
+
+found-place : (i : ℕ) (ts : List (List ℕ)) (t : List ℕ) (n : ℕ) → seek i ts t ≡ Some (numbered n) → Place i ts t n
+found-place i [] t n h = absurd (never (numbered n) h)
+found-place i (u ∷ us) t n h =
+    elim (cases-bool (sameBytes u t)) [
+      | inl y ↦
+          let e : Some (numbered i) ≡ Some (numbered n) = sym (cond-true _ _ _ y) ∙ h in
+          let same-number : numbered i ≡ numbered n = cc in
+          record { offset = 0; is = sym (ap (λ (m : Name). m .0) same-number) ∙ sym (add-zero i); below = omega arith; text = sameBytes-decides u t .0 y }
+      | inr z ↦
+          let p = found-place (i + 1) us t n (sym (cond-false _ _ _ z) ∙ h) in
+          record { offset = suc (p .offset); is = omega (arith, p .is); below = omega (arith, p .below); text = p .text }
+    ]
+
+pub found-text : (ts : List (List ℕ)) (t : List ℕ) (n : ℕ) → seek 0 ts t ≡ Some (numbered n) → textAt ts n ≡ Some t
+found-text ts t n h =
+    let p = found-place 0 ts t n h in
+    let at : n ≡ p .offset = p .is ∙ zero-add (p .offset) in
+    cond-true _ _ _ (lt-ltb n (length ts) (omega (arith, p .below))) ∙ ap Some (ap (λ k. getD ts k []) at ∙ p .text)
+
+text-found : (ts : List (List ℕ)) (t : List ℕ) (n : ℕ) → distinct ts ≡ true → textAt ts n ≡ Some t → seek 0 ts t ≡ Some (numbered n)
+text-found ts t n d h =
+    elim (cases-bool (ltb n (length ts))) [
+      | inl y ↦
+          let e : Some (getD ts n []) ≡ Some t = sym (cond-true _ _ _ y) ∙ h in
+          let text : getD ts n [] ≡ t = cc in
+          seek-at 0 ts t n d (ltb-true n (length ts) y) text ∙ ap (λ k. Some (numbered k)) (zero-add n)
+      | inr z ↦ absurd (never t (sym (cond-false _ _ _ z) ∙ h))
+    ]
+
+pub number-of : (ts : List (List ℕ)) (t : List ℕ) → distinct ts ≡ true → Number-of ts t (seek 0 ts t)
+number-of ts t d n = (found-text ts t n, text-found ts t n d)
 
 contains-push : (ts : List (List ℕ)) (t u : List ℕ) → contains ts u ≡ false → sameBytes t u ≡ false → contains (ts ++ t ∷ []) u ≡ false
 contains-push [] t u h n = or-from _ _ n refl

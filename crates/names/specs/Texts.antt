@@ -2,7 +2,7 @@
 use mathlib.Core.Path.{_≡_}
 use mathlib.Core.Bool.{Bool, true, false, cond, not, _&&_, _||_}
 use mathlib.Core.List.{List, [], _∷_, _++_}
-use Prim.Native.Nat.{ℕ, zero, suc, _+_, _<_}
+use Prim.Native.Nat.{ℕ, _+_, _<_}
 use lib.Dec.{leb, ltb}
 use lib.ListN.{length, getD}
 use Rattle.std.specs.shelf.Text.{sameBytes}
@@ -66,9 +66,9 @@ abbrev pub distinct : List (List ℕ) → Bool
 distinct [] = true
 distinct (t ∷ ts) = not (contains ts t) && distinct ts
 
--- equal texts have one number: whichever place holds t, the answer is that place
-abbrev pub Only-number : List (List ℕ) → List ℕ → Option Name → Type 0
-Only-number ts t r = (n : ℕ) → n < length ts → getD ts n [] ≡ t → r ≡ Some (numbered n)
+-- equal texts have one number: a number is the answer exactly if its text is the one that was asked for
+abbrev pub Number-of : List (List ℕ) → List ℕ → Option Name → Type 0
+Number-of ts t r = (n : ℕ) → (r ≡ Some (numbered n) → textAt ts n ≡ Some t) × (textAt ts n ≡ Some t → r ≡ Some (numbered n))
 
 -- a number never changes: what had one keeps it
 abbrev pub Keeps-numbers : List (List ℕ) → List (List ℕ) → Type 0

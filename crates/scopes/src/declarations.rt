@@ -3,9 +3,9 @@ ghost use mathlib.Core.Path.{_≡_};
 ghost use Rattle.std.specs.shelf.Text.{sameBytes};
 ghost use Rattle.names.specs.BuiltIn.{xmlUri, xmlnsUri};
 ghost use Rattle.scopes.specs.Declarations.{roleOf, verdictError, weighed, Accepts-lawful};
-ghost use Rattle.scopes.specs.Prefixes.{named};
 ghost use Rattle.scopes.specs.Rows.{binds};
 use crate::bindings::Binding;
+use crate::prefixes::is_named;
 use crate::rows::find_in;
 use names::ErrorCode;
 use names::Name;
@@ -52,15 +52,6 @@ pub fn role_of(name: QualName) -> Role
         Some(prefix) if prefix == Name::XMLNS => Role::Declares(Some(name.local)),
         None if name.local == Name::XMLNS => Role::Declares(None),
         _ => Role::Ordinary,
-    }
-}
-
-fn is_named(prefix: Option<Name>, name: Name) -> bool
-    ensures { λ r. ⌜ r ≡ named (name .0) prefix ⌝ }
-{
-    match prefix {
-        Some(prefix) => prefix == name,
-        None => false,
     }
 }
 

@@ -2,6 +2,7 @@
 mod bindings;
 mod declarations;
 mod faults;
+mod prefixes;
 mod rows;
 mod scope_table;
 mod serializer_scopes;

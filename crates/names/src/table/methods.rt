@@ -3,10 +3,11 @@ ghost use mathlib.Core.Path.{_≡_};
 ghost use lib.ListN.{length};
 ghost use Rattle.std.specs.Options.{mapped};
 ghost use Rattle.std.specs.Vec.{made};
+ghost use Rattle.std.specs.declared.option.Option.the-variants.{Some};
 ghost use Rattle.names.specs.BuiltIn.{builtIn, Begins-built-in};
 ghost use Rattle.names.specs.Held.{held};
 ghost use Rattle.names.specs.Table.{texts};
-ghost use Rattle.names.specs.Texts.{seek, textAt, entered, after, Only-number, Keeps-numbers};
+ghost use Rattle.names.specs.Texts.{seek, textAt, entered, after, Number-of, Keeps-numbers};
 use super::NameTable;
 use crate::qualified::Name;
 use crate::qualified::XML_URI;
@@ -51,7 +52,7 @@ impl NameTable {
     // The number of a text, if the table holds it.
     pub fn find(&self, text: &[u8]) -> Option<Name>
         ensures value { λ r. ⌜ r ≡ seek 0 (texts (now (self .entry))) (now (text .entry)) ⌝ }
-        ensures only { λ r. ⌜ Only-number (texts (now (self .entry))) (now (text .entry)) r ⌝ }
+        ensures number { λ r. ⌜ Number-of (texts (now (self .entry))) (now (text .entry)) r ⌝ }
     {
         self.store.find(text)
     }
@@ -68,12 +69,13 @@ impl NameTable {
     pub fn enter(&mut self, text: &[u8]) -> Result<Name, NameFault>
         ensures result { λ r. ⌜ r ≡ entered (texts (now (self .entry))) (now (text .entry)) ⌝ }
         ensures after { λ _. ⌜ texts (now (self .exit)) ≡ after (texts (now (self .entry))) (now (text .entry)) ⌝ }
+        ensures stands { λ r. ⌜ made r (λ n. textAt (texts (now (self .exit))) (n .0) ≡ Some (now (text .entry))) ⌝ }
         ensures numbers { λ _. ⌜ Keeps-numbers (texts (now (self .entry))) (texts (now (self .exit))) ⌝ }
     {
-        if let Some(name) = self.store.find(text) {
+        if let Some(name) = self.find(text) {
             return Ok(name);
         }
-        let held = self.store.len();
+        let held = self.len();
         if held >= MOST_NAMES {
             return Err(NameFault::TooManyNames { held });
         }

@@ -4,7 +4,6 @@ ghost use mathlib.Core.List.{[], _∷_};
 ghost use Prim.Native.Nat.{_+_};
 ghost use lib.ListN.{length};
 ghost use Rattle.scopes.specs.Lookups.{builtIn, look};
-ghost use Rattle.scopes.specs.Prefixes.{reserved};
 ghost use Rattle.scopes.specs.Rows.{size, opened, closed, declared};
 ghost use Rattle.scopes.specs.Scoping.{Scoped, Only-scoped};
 ghost use Rattle.scopes.specs.Tables.{rowsOf, rowsBy};
@@ -12,19 +11,10 @@ use super::ScopeTable;
 use crate::bindings::Binding;
 use crate::bindings::Lookup;
 use crate::faults::ScopeFault;
+use crate::prefixes::is_reserved;
 use crate::rows::Rows;
 use crate::rows::find_in;
 use names::Name;
-use names::NamePartialEq;
-
-fn is_reserved(prefix: Option<Name>) -> bool
-    ensures { λ r. ⌜ r ≡ reserved prefix ⌝ }
-{
-    match prefix {
-        Some(name) => name == Name::XML || name == Name::XMLNS,
-        None => false,
-    }
-}
 
 impl ScopeTable {
     // The built-in bindings alone: no element is open.
@@ -118,7 +108,7 @@ impl ScopeTable {
         ensures only { λ r. ⌜ Only-scoped (now (tag .entry) ∷ rowsOf (now (self .entry))) prefix r ⌝ }
     {
         if !is_reserved(prefix) {
-            if let Some(found) = find_in(self.rows.count(), tag, prefix) {
+            if let Some(found) = find_in(self.row_count(), tag, prefix) {
                 return Lookup::Declared(found);
             }
         }

@@ -15,7 +15,7 @@ use Rattle.scopes.proofs.scope_table.ScopeTable.find_uri.Needs.{then-not-is-re
 pub returns-in-Some : need.returns-in-Some
 returns-in-Some c =
     let elements = c .args .tag .now ∷ rowsOf (c .args .self .now) in
-    let value = tag-found (c .args .tag .now) (rowsOf (c .args .self .now)) (c .args .prefix) (c .count .result) (c .in-Some .found) (c .count .ensures) (sym (c .if-not-is-reserved .ensures tt)) (c .in-Some .ensures tt) in
+    let value = tag-found (c .args .tag .now) (rowsOf (c .args .self .now)) (c .args .prefix) (c .row-count .result) (c .in-Some .found) (c .row-count .ensures) (sym (c .if-not-is-reserved .ensures tt)) (c .in-Some .ensures tt) in
     record {
       value = value;
       scoped = subst (Scoped elements (c .args .prefix)) (sym value) (scoped elements (c .args .prefix));
@@ -26,7 +26,7 @@ returns-in-Some c =
 pub passed : (c : need.After-find-open) → look (rowsOf (c .args .self .now)) (c .args .prefix) ≡ look (c .args .tag .now ∷ rowsOf (c .args .self .now)) (c .args .prefix)
 passed c =
     elim (c .if-not-is-reserved .came) [
-      | then-not-is-reserved·in-rest w ↦ tag-none (c .args .tag .now) (rowsOf (c .args .self .now)) (c .args .prefix) (w .count .result) (w .count .ensures) (w .in-rest .ensures tt)
+      | then-not-is-reserved·in-rest w ↦ tag-none (c .args .tag .now) (rowsOf (c .args .self .now)) (c .args .prefix) (w .row-count .result) (w .row-count .ensures) (w .in-rest .ensures tt)
       | else-not-is-reserved w ↦ tag-reserved (c .args .tag .now) (rowsOf (c .args .self .now)) (c .args .prefix) (sym (w .if-not-is-reserved .ensures tt))
     ]
 
