@@ -1,0 +1,36 @@
+// Reads a token listing: plain text with one XML token a line, written by people.
+mod fault;
+mod lines;
+mod pieces;
+mod read;
+mod show;
+mod signs;
+mod token;
+
+pub use fault::Expected;
+pub use fault::ExpectedDebug;
+pub use fault::ExpectedDisplay;
+pub use fault::ExpectedEq;
+pub use fault::ExpectedPartialEq;
+pub use fault::FaultFromAlloc;
+pub use fault::FaultFromExpected;
+pub use fault::FaultFromRefused;
+pub use fault::ListingFault;
+pub use fault::ListingFaultDebug;
+pub use fault::ListingFaultEq;
+pub use fault::ListingFaultPartialEq;
+pub use lines::Lines;
+pub use lines::LinesIterator;
+pub use lines::lines_of;
+pub use lines::next_line;
+pub use read::read_token;
+pub use show::Shown;
+pub use show::ShownDisplay;
+pub use token::ListedAttribute;
+pub use token::ListedKind;
+pub use token::ListedKindDebug;
+pub use token::ListedKindEq;
+pub use token::ListedKindPartialEq;
+pub use token::ListedName;
+pub use token::ListedTag;
+pub use token::ListedToken;
