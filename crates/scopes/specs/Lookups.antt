@@ -15,7 +15,7 @@ use Rattle.scopes.specs.declared.bindings.Found.{Found}
 use Rattle.scopes.specs.declared.bindings.Lookup.{Lookup}
 use Rattle.scopes.specs.declared.bindings.Lookup.the-variants.{Declared, BuiltIn, Unbound}
 use Rattle.scopes.specs.Prefixes.{named, reserved}
-use Rattle.scopes.specs.Rows.{nearest}
+use Rattle.scopes.specs.Rows.{inRow, nearest}
 
 -- what is built in: no prefix, `xml` and `xmlns`
 abbrev pub builtIn : Option Name → Lookup
@@ -25,6 +25,10 @@ builtIn (Some n) = cond (eqb (n .0) 1) (BuiltIn (numbered 4)) (cond (eqb (n .0) 
 abbrev pub declaredOr : Option Found → Lookup → Lookup
 declaredOr (Some f) l = Declared f
 declaredOr None l = l
+
+-- what the row k of a tag says of p; no tag binds `xml` or `xmlns`
+abbrev pub onTag : ℕ → List Binding → Option Name → Option Found
+onTag k tag p = cond (reserved p) None (inRow k 0 tag p)
 
 -- the nearest binding of p, innermost row first, else what is built in; no row binds `xml` or `xmlns`
 abbrev pub look : List (List Binding) → Option Name → Lookup

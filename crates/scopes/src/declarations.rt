@@ -67,11 +67,16 @@ fn is_xmlns_uri(value: &[u8]) -> bool
     value == XMLNS_URI
 }
 
-// Weighs the declaration of `prefix` by its value. `tag` has the declarations of the same tag that were accepted before
-// it. The first line that fits decides.
-pub fn weigh(tag: &[Binding], prefix: Option<Name>, value: &[u8]) -> Verdict
-    ensures value { λ r. ⌜ r ≡ weighed (now (tag .entry)) prefix (now (value .entry)) ⌝ }
-    ensures lawful { λ r. ⌜ Accepts-lawful (now (tag .entry)) prefix (now (value .entry)) r ⌝ }
+// Whether a row has a binding of `prefix`.
+fn is_bound(row: &[Binding], prefix: Option<Name>) -> bool
+    ensures { λ r. ⌜ r ≡ binds (now (row .entry)) prefix ⌝ }
+{
+    find_in(0, row, prefix).is_some()
+}
+
+// The first line that fits decides.
+fn verdict_of(tag: &[Binding], prefix: Option<Name>, value: &[u8]) -> Verdict
+    ensures { λ r. ⌜ r ≡ weighed (now (tag .entry)) prefix (now (value .entry)) ⌝ }
 {
     if is_xmlns_uri(value) {
         return Verdict::Rejected(ErrorCode::XmlnsUriDeclared);
@@ -89,7 +94,7 @@ pub fn weigh(tag: &[Binding], prefix: Option<Name>, value: &[u8]) -> Verdict
     if is_xml_uri(value) {
         return Verdict::Rejected(ErrorCode::XmlPrefixDeclared);
     }
-    if find_in(0, tag, prefix).is_some() {
+    if is_bound(tag, prefix) {
         return Verdict::Rejected(ErrorCode::DeclaredTwice);
     }
     if value.is_empty() {
@@ -97,4 +102,13 @@ pub fn weigh(tag: &[Binding], prefix: Option<Name>, value: &[u8]) -> Verdict
     } else {
         Verdict::Binds
     }
+}
+
+// Weighs the declaration of `prefix` by its value. `tag` has the declarations of the same tag that were accepted before
+// it.
+pub fn weigh(tag: &[Binding], prefix: Option<Name>, value: &[u8]) -> Verdict
+    ensures value { λ r. ⌜ r ≡ weighed (now (tag .entry)) prefix (now (value .entry)) ⌝ }
+    ensures lawful { λ r. ⌜ Accepts-lawful (now (tag .entry)) prefix (now (value .entry)) r ⌝ }
+{
+    verdict_of(tag, prefix, value)
 }

@@ -1,8 +1,19 @@
 // Tests of a prefix.
 ghost use mathlib.Core.Path.{_≡_};
-ghost use Rattle.scopes.specs.Prefixes.{named, reserved};
+ghost use Rattle.scopes.specs.Prefixes.{same, named, reserved};
 use names::Name;
 use names::NamePartialEq;
+
+// Whether the two are one prefix. An absent one is none of the present ones.
+pub(crate) fn same_prefix(a: Option<Name>, b: Option<Name>) -> bool
+    ensures { λ r. ⌜ r ≡ same a b ⌝ }
+{
+    match (a, b) {
+        (None, None) => true,
+        (Some(m), Some(n)) => m == n,
+        _ => false,
+    }
+}
 
 // Whether the prefix is there, and is this name.
 pub(crate) fn is_named(prefix: Option<Name>, name: Name) -> bool

@@ -1,12 +1,13 @@
 // What a store of texts does.
 ghost use mathlib.Core.Path.{_≡_};
+ghost use mathlib.Core.Bool.{false};
 ghost use mathlib.Core.List.{[], _∷_, _++_};
 ghost use Prim.Native.Nat.{_+_, _<_, _≤_};
 ghost use lib.ListN.{length};
 ghost use Rattle.std.specs.Options.{mapped};
 ghost use Rattle.std.specs.Vec.{made};
 ghost use Rattle.names.specs.Cuts.{startOf};
-ghost use Rattle.names.specs.Texts.{seek, total, textAt};
+ghost use Rattle.names.specs.Texts.{seek, contains, total, textAt, Number-of};
 ghost use Rattle.names.specs.Held.{held};
 use super::MOST_BYTES;
 use super::MOST_NAMES;
@@ -51,9 +52,10 @@ impl TextStore {
         self.bytes.len()
     }
 
-    // The number of the first text that equals `text`.
+    // The number of the text that equals `text`.
     pub(crate) fn find(&self, text: &[u8]) -> Option<Name>
-        ensures { λ r. ⌜ r ≡ seek 0 (held (now (self .entry))) (now (text .entry)) ⌝ }
+        ensures value { λ r. ⌜ r ≡ seek 0 (held (now (self .entry))) (now (text .entry)) ⌝ }
+        ensures number { λ r. ⌜ Number-of (held (now (self .entry))) (now (text .entry)) r ⌝ }
     {
         let mut start = 0;
         for (i, end) in self.ends.iter().enumerate() {
@@ -78,9 +80,10 @@ impl TextStore {
         Some(&self.bytes[start..end])
     }
 
-    // Adds a text, for which there is room.
+    // Adds a text that is not there yet, and for which there is room.
     pub(crate) fn push(&mut self, text: &[u8])
         requires few { ⌜ length (held (now self)) < 512 ⌝ }
+        requires new { ⌜ contains (held (now self)) (now text) ≡ false ⌝ }
         requires short { ⌜ total (held (now self)) + length (now text) ≤ 16384 ⌝ }
         ensures { λ _. ⌜ held (now (self .exit)) ≡ held (now (self .entry)) ++ now (text .entry) ∷ [] ⌝ }
     {

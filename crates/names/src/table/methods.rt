@@ -1,13 +1,16 @@
 // What a name table does.
 ghost use mathlib.Core.Path.{_≡_};
+ghost use mathlib.Core.Bool.{true};
+ghost use Prim.Native.Nat.{_+_, _<_, _≤_};
 ghost use lib.ListN.{length};
 ghost use Rattle.std.specs.Options.{mapped};
 ghost use Rattle.std.specs.Vec.{made};
-ghost use Rattle.std.specs.declared.option.Option.the-variants.{Some};
-ghost use Rattle.names.specs.BuiltIn.{builtIn, Begins-built-in};
-ghost use Rattle.names.specs.Held.{held};
+ghost use Rattle.std.specs.declared.option.Option.the-variants.{Some, None};
+ghost use Rattle.names.specs.BuiltIn.{builtIn};
+ghost use Rattle.names.specs.Held as store;
+ghost use Rattle.names.specs.Names.{numbered};
 ghost use Rattle.names.specs.Table.{texts};
-ghost use Rattle.names.specs.Texts.{seek, textAt, entered, after, Number-of, Keeps-numbers};
+ghost use Rattle.names.specs.Texts.{begins, seek, textAt, fits, entered, after, Number-of, Keeps-numbers};
 use super::NameTable;
 use crate::qualified::Name;
 use crate::qualified::XML_URI;
@@ -21,7 +24,7 @@ use std::alloc::Global;
 
 // The texts that every table begins with, in the order of their numbers.
 fn built_in_names(heap: Global) -> Result<TextStore, AllocError>
-    ensures { λ r. ⌜ made r (λ s. held s ≡ builtIn) ⌝ }
+    ensures { λ r. ⌜ made r (λ s. store.held s ≡ builtIn) ⌝ }
 {
     let mut store = TextStore::new(heap)?;
     store.push(b"");
@@ -31,6 +34,21 @@ fn built_in_names(heap: Global) -> Result<TextStore, AllocError>
     store.push(XML_URI);
     store.push(XMLNS_URI);
     Ok(store)
+}
+
+// The number of the next name, of `len` bytes, beside `held` names of `bytes` bytes, if the limits allow it.
+fn next_name(held: usize, bytes: usize, len: usize) -> Result<Name, NameFault>
+    requires { ⌜ bytes ≤ 16384 ⌝ }
+    ensures value { λ r. ⌜ r ≡ fits held bytes len ⌝ }
+    ensures room { λ r. ⌜ made r (λ n. (n ≡ numbered held) × (held < 512) × (bytes + len ≤ 16384)) ⌝ }
+{
+    if held >= MOST_NAMES {
+        return Err(NameFault::TooManyNames { held });
+    }
+    if len > MOST_BYTES - bytes {
+        return Err(NameFault::TooManyBytes { held });
+    }
+    Ok(Name(held as u16))
 }
 
 impl NameTable {
@@ -60,7 +78,7 @@ impl NameTable {
     // The text of a number, if the table has gone so far.
     pub fn text(&self, name: Name) -> Option<&[u8]>
         ensures value { λ r. ⌜ mapped now r ≡ textAt (texts (now (self .entry))) (name .0) ⌝ }
-        ensures built_in { λ _. ⌜ Begins-built-in (texts (now (self .entry))) ⌝ }
+        ensures built_in { λ _. ⌜ begins builtIn (texts (now (self .entry))) ≡ true ⌝ }
     {
         self.store.text(name.0 as usize)
     }
@@ -72,17 +90,22 @@ impl NameTable {
         ensures stands { λ r. ⌜ made r (λ n. textAt (texts (now (self .exit))) (n .0) ≡ Some (now (text .entry))) ⌝ }
         ensures numbers { λ _. ⌜ Keeps-numbers (texts (now (self .entry))) (texts (now (self .exit))) ⌝ }
     {
-        if let Some(name) = self.find(text) {
-            return Ok(name);
+        match self.find(text) {
+            Some(name) => Ok(name),
+            None => self.append(text),
         }
-        let held = self.len();
-        if held >= MOST_NAMES {
-            return Err(NameFault::TooManyNames { held });
-        }
-        if text.len() > MOST_BYTES - self.store.bytes() {
-            return Err(NameFault::TooManyBytes { held });
-        }
+    }
+
+    // Enters a text that the table does not hold.
+    fn append(&mut self, text: &[u8]) -> Result<Name, NameFault>
+        requires { ⌜ None ≡ seek 0 (texts (now self)) (now text) ⌝ }
+        ensures result { λ r. ⌜ r ≡ entered (texts (now (self .entry))) (now (text .entry)) ⌝ }
+        ensures after { λ _. ⌜ texts (now (self .exit)) ≡ after (texts (now (self .entry))) (now (text .entry)) ⌝ }
+        ensures stands { λ r. ⌜ made r (λ n. textAt (texts (now (self .exit))) (n .0) ≡ Some (now (text .entry))) ⌝ }
+        ensures numbers { λ _. ⌜ Keeps-numbers (texts (now (self .entry))) (texts (now (self .exit))) ⌝ }
+    {
+        let name = next_name(self.len(), self.store.bytes(), text.len())?;
         self.store.push(text);
-        Ok(Name(held as u16))
+        Ok(name)
     }
 }

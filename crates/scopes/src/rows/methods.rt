@@ -1,26 +1,37 @@
 // What rows of bindings do.
 ghost use mathlib.Core.Path.{_≡_};
+ghost use mathlib.Core.Bool.{true, false};
 ghost use mathlib.Core.List.{[], _∷_};
 ghost use Prim.Native.Nat.{_+_, _≤_};
+ghost use lib.Dec.{ltb};
 ghost use lib.ListN.{length, take};
 ghost use Rattle.std.specs.Vec.{made};
 ghost use Rattle.scopes.specs.Rows.{inRow, nearest, size, opened, added, closed};
 ghost use Rattle.scopes.specs.Held.{held, base, heldBy};
+ghost use Rattle.scopes.specs.Prefixes.{same, reserved, free};
+ghost use Rattle.scopes.specs.Scoping.{Answered};
 use super::MOST_BINDINGS;
 use super::MOST_ROWS;
 use super::Rows;
 use crate::bindings::Binding;
 use crate::bindings::Found;
 use crate::faults::ScopeFault;
+use crate::prefixes::same_prefix;
 use names::Name;
-use names::NamePartialEq;
+
+// Whether a binding is one of `prefix`, be it bound or undeclared.
+fn is_of(binding: &Binding, prefix: Option<Name>) -> bool
+    ensures { λ r. ⌜ r ≡ same (now (binding .entry) .prefix) prefix ⌝ }
+{
+    same_prefix(binding.prefix, prefix)
+}
 
 // The first binding of `prefix` in a row. `row` is the number that the answer gives the row.
 pub(crate) fn find_in(row: usize, bindings: &[Binding], prefix: Option<Name>) -> Option<Found>
     ensures { λ r. ⌜ r ≡ inRow row 0 (now (bindings .entry)) prefix ⌝ }
 {
     for (place, binding) in bindings.iter().enumerate() {
-        if binding.prefix == prefix {
+        if is_of(binding, prefix) {
             return Some(Found {
                 row,
                 place,
@@ -29,6 +40,18 @@ pub(crate) fn find_in(row: usize, bindings: &[Binding], prefix: Option<Name>) ->
         }
     }
     None
+}
+
+fn has_row_left(count: usize) -> bool
+    ensures { λ r. ⌜ r ≡ ltb count 128 ⌝ }
+{
+    count < MOST_ROWS
+}
+
+fn has_binding_left(len: usize) -> bool
+    ensures { λ r. ⌜ r ≡ ltb len 256 ⌝ }
+{
+    len < MOST_BINDINGS
 }
 
 impl Rows {
@@ -73,7 +96,7 @@ impl Rows {
         ensures rows { λ r. ⌜ heldBy r ≡ opened (held self) ⌝ }
         ensures base { λ r. ⌜ made r (λ t. base t ≡ base self) ⌝ }
     {
-        if self.count >= MOST_ROWS {
+        if !has_row_left(self.count) {
             return Err(ScopeFault::TooManyRows);
         }
         let mut rows = self;
@@ -86,11 +109,12 @@ impl Rows {
     pub(crate) fn add(self, binding: Binding) -> Result<Rows, ScopeFault>
         ensures rows { λ r. ⌜ heldBy r ≡ added (length (base self)) (held self) binding ⌝ }
         ensures base { λ r. ⌜ made r (λ t. base t ≡ base self) ⌝ }
+        ensures free { λ r. ⌜ (free (held self) ≡ true → reserved (binding .prefix) ≡ false → made r (λ t. free (held t) ≡ true)) ⌝ }
     {
         if self.count == 0 {
             return Err(ScopeFault::NoOpenRow);
         }
-        if self.len >= MOST_BINDINGS {
+        if !has_binding_left(self.len) {
             return Err(ScopeFault::TooManyBindings);
         }
         let mut rows = self;
@@ -103,6 +127,7 @@ impl Rows {
     pub(crate) fn close_row(self) -> Result<Rows, ScopeFault>
         ensures rows { λ r. ⌜ heldBy r ≡ closed (held self) ⌝ }
         ensures base { λ r. ⌜ made r (λ t. base t ≡ base self) ⌝ }
+        ensures free { λ r. ⌜ (free (held self) ≡ true → made r (λ t. free (held t) ≡ true)) ⌝ }
     {
         if self.count == 0 {
             return Err(ScopeFault::NoOpenRow);
@@ -115,7 +140,8 @@ impl Rows {
 
     // The binding of `prefix` in the innermost row that has one.
     pub(crate) fn find(&self, prefix: Option<Name>) -> Option<Found>
-        ensures { λ r. ⌜ r ≡ nearest (held (now (self .entry))) prefix ⌝ }
+        ensures value { λ r. ⌜ r ≡ nearest (held (now (self .entry))) prefix ⌝ }
+        ensures scoped { λ r. ⌜ Answered (held (now (self .entry))) prefix r ⌝ }
     {
         let mut end = self.len;
         for row in (0..self.count).rev() {

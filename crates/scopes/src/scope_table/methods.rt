@@ -3,18 +3,29 @@ ghost use mathlib.Core.Path.{_≡_};
 ghost use mathlib.Core.List.{[], _∷_};
 ghost use Prim.Native.Nat.{_+_};
 ghost use lib.ListN.{length};
-ghost use Rattle.scopes.specs.Lookups.{builtIn, look};
+ghost use Rattle.scopes.specs.Lookups.{builtIn, declaredOr, onTag, look};
 ghost use Rattle.scopes.specs.Rows.{size, opened, closed, declared};
 ghost use Rattle.scopes.specs.Scoping.{Scoped, Only-scoped};
 ghost use Rattle.scopes.specs.Tables.{rowsOf, rowsBy};
 use super::ScopeTable;
 use crate::bindings::Binding;
+use crate::bindings::Found;
 use crate::bindings::Lookup;
 use crate::faults::ScopeFault;
 use crate::prefixes::is_reserved;
 use crate::rows::Rows;
 use crate::rows::find_in;
 use names::Name;
+
+// What a tag says of a prefix: nothing of `xml` and `xmlns`, whatever stands in it.
+fn find_on_tag(row: usize, tag: &[Binding], prefix: Option<Name>) -> Option<Found>
+    ensures { λ r. ⌜ r ≡ onTag row (now (tag .entry)) prefix ⌝ }
+{
+    if is_reserved(prefix) {
+        return None;
+    }
+    find_in(row, tag, prefix)
+}
 
 impl ScopeTable {
     // The built-in bindings alone: no element is open.
@@ -100,6 +111,16 @@ impl ScopeTable {
         }
     }
 
+    // The answer of the tag itself, else of the open elements, else of the built-in bindings.
+    fn find_binding(&self, tag: &[Binding], prefix: Option<Name>) -> Lookup
+        ensures { λ r. ⌜ r ≡ declaredOr (onTag (length (rowsOf (now (self .entry)))) (now (tag .entry)) prefix) (look (rowsOf (now (self .entry))) prefix) ⌝ }
+    {
+        match find_on_tag(self.row_count(), tag, prefix) {
+            Some(found) => Lookup::Declared(found),
+            None => self.find_open(prefix),
+        }
+    }
+
     // The binding that is in force for a prefix on a tag inside the open elements. `tag` has the declarations that were
     // accepted on the tag itself; one of them answers with the number of open elements for its row.
     pub fn find_uri(&self, tag: &[Binding], prefix: Option<Name>) -> Lookup
@@ -107,11 +128,6 @@ impl ScopeTable {
         ensures scoped { λ r. ⌜ Scoped (now (tag .entry) ∷ rowsOf (now (self .entry))) prefix r ⌝ }
         ensures only { λ r. ⌜ Only-scoped (now (tag .entry) ∷ rowsOf (now (self .entry))) prefix r ⌝ }
     {
-        if !is_reserved(prefix) {
-            if let Some(found) = find_in(self.row_count(), tag, prefix) {
-                return Lookup::Declared(found);
-            }
-        }
-        self.find_open(prefix)
+        self.find_binding(tag, prefix)
     }
 }

@@ -1,14 +1,19 @@
-use mathlib.Core.Path.{sym, ap, _∙_}
+use mathlib.Core.Path.{_≡_, sym, ap, subst, _∙_}
+use mathlib.Core.List.{List}
 use native.Mathlib.Omega.{arith}
 use lib.ListN.{length, getD, drop}
-use Prim.Native.Nat.{_+_}
+use Prim.Native.Nat.{ℕ, _+_}
 use Rattle.std.specs.Of.Vec.{vec-items, vec-len}
 use Rattle.std.proofs.shelf.Equals.{matches-decides}
 use Rattle.std.proofs.shelf.Lists.{drop-all}
 use Rattle.names.specs.Cuts.{cuts}
-use Rattle.names.specs.Texts.{seek}
+use Rattle.std.specs.declared.option.Option.{Option}
+use Rattle.names.specs.declared.qualified.Name.{Name}
+use Rattle.names.specs.declared.store.TextStore.{TextStore}
+use Rattle.names.specs.Held.{held}
+use Rattle.names.specs.Texts.{seek, Number-of}
 use Rattle.names.proofs.Cutting.{Front}
-use Rattle.names.proofs.Seeking.{front-at, seek-here, seek-on}
+use Rattle.names.proofs.Seeking.{front-at, seek-here, seek-on, number-of}
 use Rattle.names.proofs.store.TextStore.find.Needs as need
 
 -- the text that the loop has come to
@@ -24,10 +29,14 @@ part-eq-start c = here c .low
 pub part-eq-end : need.part-eq-end
 part-eq-end c = let h = here c .high in omega (arith, c .deref .ensures .len)
 
+-- the answer of the search is the number of the text
+answer : (s : TextStore) (t : List ℕ) (r : Option Name) → r ≡ seek 0 (held s) t → Number-of (held s) t r
+answer s t r h = subst (Number-of (held s) t) (sym h) (number-of (held s) t (s .apart))
+
 pub returns-then-eq : need.returns-then-eq
 returns-then-eq c =
-    sym (seek-here _ _ _ _ _ _ _ _ (c .deref-end-items .ensures .value) (c .deref .ensures .value) (c .loop-i-test .taken) (matches-decides _ _ _ (c .eq .ensures)) (c .if-eq .taken))
-    ∙ c .loop-i .inv .1
+    let value = sym (seek-here _ _ _ _ _ _ _ _ (c .deref-end-items .ensures .value) (c .deref .ensures .value) (c .loop-i-test .taken) (matches-decides _ _ _ (c .eq .ensures)) (c .if-eq .taken)) ∙ c .loop-i .inv .1 in
+    record { value = value; number = answer (c .args .self .now) (c .args .text .now) _ value }
 
 pub loop-i-again : need.loop-i-again
 loop-i-again c = (
@@ -38,5 +47,6 @@ loop-i-again c = (
 pub returns : need.returns
 returns c =
     let s = c .args .self .now in
-    sym (ap (λ x. seek (c .loop-i .i) (cuts (c .loop-i .start) x (vec-items (s .bytes))) (c .args .text .now)) (drop-all (c .loop-i .i) (vec-items (s .ends)) (omega (arith, c .loop-i-test .left, ap length (c .deref-end-items .ensures .value)))))
-    ∙ c .loop-i .inv .1
+    let none = drop-all (c .loop-i .i) (vec-items (s .ends)) (omega (arith, c .loop-i-test .left, ap length (c .deref-end-items .ensures .value))) in
+    let value = sym (ap (λ x. seek (c .loop-i .i) (cuts (c .loop-i .start) x (vec-items (s .bytes))) (c .args .text .now)) none) ∙ c .loop-i .inv .1 in
+    record { value = value; number = answer s (c .args .text .now) _ value }

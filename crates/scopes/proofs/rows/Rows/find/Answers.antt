@@ -3,10 +3,13 @@ use native.Mathlib.Omega.{arith}
 use Prim.Native.Nat.{_-_}
 use lib.ListN.{getD}
 use Rattle.std.specs.Options.{orOther}
+use Rattle.std.specs.declared.option.Option.the-variants.{Some, None}
+use Rattle.scopes.specs.Held.{held}
 use Rattle.scopes.specs.Rows.{nearest}
 use Rattle.scopes.specs.Stacks.{stacked}
 use Rattle.scopes.proofs.Stacking.{Top, close-top}
 use Rattle.scopes.proofs.Searching.{rows-step}
+use Rattle.scopes.proofs.Relating.{answered}
 use Rattle.scopes.proofs.rows.Rows.find.Needs as need
 
 -- the row that the loop has come to
@@ -32,9 +35,10 @@ pub returns-in-Some : need.returns-in-Some
 returns-in-Some c =
     let r = c .args .self .now in
     let rest = nearest (stacked (r .starts) (r .entries) (c .loop-row .row - 1) (getD (r .starts) (c .loop-row .row - 1) 0)) (c .args .prefix) in
-    ap (λ o. orOther o rest) (c .in-Some .ensures tt)
+    let value = ap (λ o. orOther o rest) (c .in-Some .ensures tt)
     ∙ sym (rows-step (r .starts) (r .entries) (c .loop-row .row) (c .loop-row .end) (c .args .prefix) (c .loop-row-test .taken))
-    ∙ c .loop-row .inv .2
+    ∙ c .loop-row .inv .2 in
+    record { value = value; scoped = answered (held r) (c .args .prefix) (Some (c .in-Some .found)) value }
 
 pub loop-row-again : need.loop-row-again
 loop-row-again c =
@@ -52,4 +56,5 @@ pub returns : need.returns
 returns c =
     let r = c .args .self .now in
     let none : c .loop-row .row ≡ 0 = omega (arith, c .loop-row-test .left) in
-    sym (ap (λ n. nearest (stacked (r .starts) (r .entries) n (c .loop-row .end)) (c .args .prefix)) none) ∙ c .loop-row .inv .2
+    let value = sym (ap (λ n. nearest (stacked (r .starts) (r .entries) n (c .loop-row .end)) (c .args .prefix)) none) ∙ c .loop-row .inv .2 in
+    record { value = value; scoped = answered (held r) (c .args .prefix) None value }
