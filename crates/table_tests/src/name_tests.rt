@@ -10,6 +10,8 @@ use names::NameTable;
 use names::QualName;
 use names::QualNamePartialEq;
 use names::Span;
+use names::XML_URI;
+use names::XMLNS_URI;
 use std::test::*;
 
 // Enters `count` texts of two bytes, none of which is built in.
@@ -56,6 +58,17 @@ fn a_table_begins_with_six_names(rt: LibcRuntime) -> Result<(), Fail> {
         check_eq(number(table.find(text)) as usize, i)?;
     }
     check(table.text(Name(6)).is_none())
+}
+
+#[test]
+fn the_constants_name_the_built_in_texts(rt: LibcRuntime) -> Result<(), Fail> {
+    let table = NameTable::new(rt.alloc())?;
+    check(table.find(b"") == Some(Name::EMPTY))?;
+    check(table.find(b"xml") == Some(Name::XML))?;
+    check(table.find(b"xmlns") == Some(Name::XMLNS))?;
+    check(table.find(b"script") == Some(Name::SCRIPT))?;
+    check(table.find(XML_URI) == Some(Name::XML_URI))?;
+    check(table.find(XMLNS_URI) == Some(Name::XMLNS_URI))
 }
 
 #[test]

@@ -88,6 +88,7 @@ impl TextStore {
         ensures { λ _. ⌜ held (now (self .exit)) ≡ held (now (self .entry)) ++ now (text .entry) ∷ [] ⌝ }
     {
         let end = self.bytes.len() + text.len();
+        // the memory is there, so this cannot fail
         let _ = self.bytes.extend_from_slice(text);
         self.ends.push_reserved(end);
     }
