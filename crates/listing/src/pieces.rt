@@ -6,7 +6,7 @@ use crate::signs::Sign;
 use std::alloc::Global;
 
 #[derive(Drop)]
-pub enum Piece {
+pub(crate) enum Piece {
     Word(Vec<Sign>),
     Text(Vec<u8>),
     Attribute(Vec<Sign>, Vec<u8>),
@@ -121,7 +121,7 @@ fn next_place(
     }
 }
 
-pub fn read_pieces(heap: Global, signs: &[Sign]) -> Result<Vec<Piece>, ListingFault> {
+pub(crate) fn read_pieces(heap: Global, signs: &[Sign]) -> Result<Vec<Piece>, ListingFault> {
     let mut pieces = Vec::new(heap);
     let mut place = Place::Between;
     for sign in signs {

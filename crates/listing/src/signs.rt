@@ -7,7 +7,7 @@ use std::alloc::Global;
 
 // A byte of a line as its writer meant it. Only a plain one can be a quote, a blank, an `=` or a colon that separates.
 #[derive(Clone, Copy)]
-pub enum Sign {
+pub(crate) enum Sign {
     Plain(u8),
     Escaped(u8),
     // `\e`, which stands for no byte: it lets a name be empty.
@@ -61,7 +61,7 @@ fn next_step(escape: Escape, b: u8) -> Result<Step, Expected> {
 }
 
 // The signs of a piece of a line, or what was expected where an escape is malformed.
-pub fn read_signs(heap: Global, bytes: &[u8]) -> Result<Vec<Sign>, ListingFault> {
+pub(crate) fn read_signs(heap: Global, bytes: &[u8]) -> Result<Vec<Sign>, ListingFault> {
     let mut signs = Vec::new(heap);
     let mut escape = Escape::Outside;
     for b in bytes {
