@@ -104,7 +104,7 @@ impl fmt::Display for TokenOutline<'_> as TokenOutlineDisplay {
     }
 }
 
-pub fn outline(heap: Global, line: &[u8]) -> Result<String, AllocError> {
+pub(crate) fn outline(heap: Global, line: &[u8]) -> Result<String, AllocError> {
     match read_token(heap, line) {
         Ok(Some(token)) => {
             let token = TokenOutline(&token);

@@ -1,3 +1,4 @@
 pub mod Cutting
 pub mod Seeking
+pub mod Storing
 pub mod Entering

@@ -8,16 +8,11 @@ use Rattle.std.proofs.Told.{chosen}
 use Rattle.names.specs.declared.store.TextStore.{TextStore}
 use Rattle.names.specs.Cuts.{cuts}
 use Rattle.names.specs.Held.{held}
-use Rattle.names.specs.Texts.{total, distinct}
-use Rattle.names.proofs.Cutting.{chained-push, cuts-push, length-cuts, total-cuts}
+use Rattle.names.specs.Texts.{distinct}
+use Rattle.names.proofs.Cutting.{chained-push, cuts-push}
 use Rattle.names.proofs.Seeking.{distinct-push}
+use Rattle.names.proofs.Storing.{count, used}
 use Rattle.names.proofs.store.TextStore.push.Needs as need
-
-count : (s : TextStore) → length (held s) ≡ vec-len (s .ends)
-count s = length-cuts 0 (vec-items (s .ends)) (vec-items (s .bytes)) ∙ sym (s .ends .ok .0)
-
-used : (s : TextStore) → total (held s) ≡ vec-len (s .bytes)
-used s = omega (arith, total-cuts 0 (vec-items (s .ends)) (vec-items (s .bytes)) (vec-len (s .bytes)) (sym (s .bytes .ok .0)) (s .chain))
 
 -- the texts after the bytes and the end were added
 pushed : (s : TextStore) (t : List ℕ) (n : ℕ) (ends bytes : List ℕ) → n ≡ vec-len (s .bytes) → ends ≡ vec-items (s .ends) ++ (n + length t) ∷ [] → bytes ≡ vec-items (s .bytes) ++ t → cuts 0 ends bytes ≡ held s ++ t ∷ []

@@ -7,7 +7,8 @@ use Rattle.std.proofs.shelf.Lists.{getD-read}
 use Rattle.std.proofs.shelf.Tests.{cond-false, le-ltb}
 use Rattle.names.specs.Cuts.{startOf}
 use Rattle.names.specs.Held.{held}
-use Rattle.names.proofs.Cutting.{length-cuts, placed, text-there}
+use Rattle.names.proofs.Cutting.{placed, text-there}
+use Rattle.names.proofs.Storing.{count}
 use Rattle.names.proofs.store.TextStore.text.Needs as need
 
 -- the text that is asked for lies within the bytes
@@ -27,7 +28,7 @@ bounds c =
 pub returns-then-i-len : need.returns-then-i-len
 returns-then-i-len c =
     let s = c .args .self .now in
-    sym (cond-false _ _ _ (le-ltb (c .args .i) (length (held s)) (omega (arith, c .if-i-len .taken, c .len .ensures, s .ends .ok .0, length-cuts 0 (vec-items (s .ends)) (vec-items (s .bytes))))))
+    sym (cond-false _ _ _ (le-ltb (c .args .i) (length (held s)) (omega (arith, c .if-i-len .taken, c .len .ensures, count s))))
 
 pub part-result-count : need.part-result-count
 part-result-count c = bounds c .low
