@@ -1,13 +1,13 @@
 -- What one text more means for the ends and the cuts, and where the text at a place stands. Assumes nothing.
 use mathlib.Core.Path.{_≡_, refl, sym, ap, _∙_}
-use mathlib.Core.Bool.{true, _&&_}
+use mathlib.Core.Bool.{true}
 use mathlib.Core.List.{List, [], _∷_, _++_}
 use Prim.Native.Nat.{ℕ, zero, suc, _+_, _-_, _≤_, _<_}
 use native.Mathlib.Omega.{arith}
 use lib.Dec.{eqb, leb}
-use lib.ListN.{length, take, drop, getD, length-drop}
+use lib.ListN.{length, drop, getD, length-drop}
 use Rattle.std.specs.Holes.{between}
-use Rattle.std.proofs.shelf.Lists.{take-append-le, drop-append-le, drop-at, take-all, drop-more}
+use Rattle.std.proofs.shelf.Lists.{take-append-le, drop-append-le, drop-at, take-all}
 use Rattle.std.proofs.shelf.Edits.{length-between}
 use Rattle.std.proofs.shelf.Tests.{and-parts, and-from, leb-true, le-leb, lt-ltb, eqb-true, eq-eqb, cond-true}
 use Rattle.names.specs.Cuts.{chained, cuts, startOf}

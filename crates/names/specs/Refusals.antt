@@ -1,5 +1,4 @@
 -- What the refusals of a name table tell: number, layer and place. Assumes nothing.
-use Prim.Native.Nat.{ℕ}
 use Rattle.names.specs.declared.refusals.Layer.the-variants.{Names}
 use Rattle.names.specs.declared.refusals.Refusal.{Refusal}
 use Rattle.names.specs.declared.refusals.NameFault.{NameFault}

@@ -1,9 +1,9 @@
 -- The look-up through the rows agrees with the relation on declarations and their scopes, both ways. Assumes nothing.
 use mathlib.Core.Path.{_≡_, refl, sym, ap, subst, _∙_}
-use mathlib.Core.Bool.{Bool, true, false, cond, _||_}
+use mathlib.Core.Bool.{true, false}
 use mathlib.Core.List.{List, [], _∷_}
-use mathlib.Core.Logic.{_⊎_, inl, inr}
-use Prim.Native.Nat.{ℕ, zero, suc, _+_, _≤_, _<_}
+use mathlib.Core.Logic.{inl, inr}
+use Prim.Native.Nat.{ℕ, zero, suc, _+_, _<_}
 use native.Mathlib.Nat.{zero-add, add-zero}
 use native.Mathlib.Omega.{arith}
 use lib.Dec.{eqb}
@@ -13,11 +13,9 @@ use Rattle.std.specs.declared.option.Option.{Option}
 use Rattle.std.specs.declared.option.Option.the-variants.{Some, None}
 use Rattle.std.proofs.shelf.Tests.{cond-true, cond-false, cases-bool, cases-lt, cases-order, or-parts, or-from, eq-eqb, ne-eqb, both-ways}
 use Rattle.names.specs.declared.qualified.Name.{Name}
-use Rattle.names.specs.Names.{numbered}
 use Rattle.scopes.specs.declared.bindings.Binding.{Binding}
 use Rattle.scopes.specs.declared.bindings.Found.{Found}
-use Rattle.scopes.specs.declared.bindings.Lookup.{Lookup}
-use Rattle.scopes.specs.declared.bindings.Lookup.the-variants.{Declared, BuiltIn, Unbound}
+use Rattle.scopes.specs.declared.bindings.Lookup.the-variants.{Declared, Unbound}
 use Rattle.scopes.specs.Prefixes.{same, named, reserved}
 use Rattle.scopes.specs.Rows.{inRow, nearest}
 use Rattle.scopes.specs.Lookups.{builtIn, declaredOr, look}

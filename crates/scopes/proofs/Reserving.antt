@@ -1,6 +1,6 @@
 -- The built-in bindings, and that no row binds `xml` or `xmlns`. Assumes nothing.
-use mathlib.Core.Path.{_≡_, refl, sym, ap, subst, _∙_}
-use mathlib.Core.Bool.{Bool, true, false, cond, not, _&&_, _||_}
+use mathlib.Core.Path.{_≡_, refl, sym, ap, _∙_}
+use mathlib.Core.Bool.{true, false, not}
 use mathlib.Core.List.{List, [], _∷_, _++_}
 use mathlib.Core.Logic.{inl, inr}
 use Prim.Native.Nat.{ℕ, _+_}
@@ -18,7 +18,6 @@ use Rattle.scopes.specs.declared.bindings.Binding.{Binding}
 use Rattle.scopes.specs.declared.bindings.Found.{Found}
 use Rattle.scopes.specs.declared.bindings.Lookup.{Lookup}
 use Rattle.scopes.specs.declared.bindings.Lookup.the-variants.{Declared, BuiltIn, Unbound}
-use Rattle.scopes.specs.declared.faults.ScopeFault.{ScopeFault}
 use Rattle.scopes.specs.Prefixes.{same, reserved, freeRow, free, builtIns, isBuiltIn}
 use Rattle.scopes.specs.Rows.{size, added, closed, inRow, nearest}
 use Rattle.scopes.specs.Lookups.{builtIn, declaredOr, onTag, look}

@@ -1,7 +1,7 @@
 -- The steps of the two searches: through the bindings of a row, and through the rows. Assumes nothing.
-use mathlib.Core.Path.{_≡_, refl, sym, ap, _∙_}
-use mathlib.Core.Bool.{Bool, true, false, cond}
-use mathlib.Core.List.{List, [], _∷_}
+use mathlib.Core.Path.{_≡_, ap, _∙_}
+use mathlib.Core.Bool.{true, false, cond}
+use mathlib.Core.List.{List}
 use Prim.Native.Nat.{ℕ, zero, suc, _+_, _-_, _<_}
 use native.Mathlib.Omega.{arith}
 use lib.ListN.{length, drop, getD}
@@ -13,7 +13,6 @@ use Rattle.std.proofs.shelf.Lists.{drop-more}
 use Rattle.std.proofs.shelf.Tests.{cond-true, cond-false}
 use Rattle.names.specs.declared.qualified.Name.{Name}
 use Rattle.scopes.specs.declared.bindings.Binding.{Binding}
-use Rattle.scopes.specs.declared.bindings.Found.{Found}
 use Rattle.scopes.specs.Prefixes.{same}
 use Rattle.scopes.specs.Rows.{inRow, nearest}
 use Rattle.scopes.specs.Stacks.{stacked}

@@ -1,18 +1,18 @@
 -- What a change of the arrays means for the rows that they hold. Assumes nothing.
 use mathlib.Core.Path.{_≡_, refl, sym, ap, subst, _∙_}
-use mathlib.Core.Bool.{Bool, true, false, cond, _&&_}
+use mathlib.Core.Bool.{true, _&&_}
 use mathlib.Core.List.{List, [], _∷_, _++_}
 use mathlib.Core.Logic.{_≢_}
 use Prim.Native.Nat.{ℕ, zero, suc, _+_, _-_, _≤_, _<_}
 use native.Mathlib.Omega.{arith}
 use native.Mathlib.Numerals.{add-one}
-use lib.Dec.{eqb, leb}
+use lib.Dec.{leb}
 use lib.ListN.{length, take, drop, getD, set, length-set}
 use Rattle.std.specs.Holes.{between}
 use Rattle.std.specs.declared.result.Result.the-variants.{Ok, Err}
 use Rattle.std.proofs.shelf.Edits.{between-none, between-more, length-between}
 use Rattle.std.proofs.shelf.Lists.{getD-set-same, getD-set-other, take-set-le, drop-set-add, length-take-le}
-use Rattle.std.proofs.shelf.Tests.{and-parts, and-from, leb-true, le-leb, eqb-true, eq-eqb, cond-true, cond-false, lt-ltb, le-ltb}
+use Rattle.std.proofs.shelf.Tests.{and-parts, and-from, leb-true, le-leb, eqb-true, cond-true, cond-false, lt-ltb, le-ltb}
 use Rattle.scopes.specs.declared.bindings.Binding.{Binding}
 use Rattle.scopes.specs.declared.faults.ScopeFault.the-variants.{TooManyBindings}
 use Rattle.scopes.specs.Stacks.{stacked, climbs}

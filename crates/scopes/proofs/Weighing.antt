@@ -1,12 +1,12 @@
 -- What the chain of a declaration's weighing comes to. Assumes nothing.
 use mathlib.Core.Path.{_≡_, refl, sym, ap, subst, _∙_}
-use mathlib.Core.Bool.{Bool, true, false, cond, _||_}
+use mathlib.Core.Bool.{Bool, true, false, _||_}
 use mathlib.Core.List.{List, [], _∷_}
 use mathlib.Core.Logic.{inl, inr}
-use Prim.Native.Nat.{ℕ, zero, suc, _+_, _<_}
+use Prim.Native.Nat.{ℕ, zero, suc, _+_}
 use native.Mathlib.Omega.{arith}
 use lib.Dec.{eqb}
-use lib.ListN.{length, getD}
+use lib.ListN.{length}
 use Rattle.std.specs.Options.{isSome}
 use Rattle.std.specs.Orderings.{Decides}
 use Rattle.std.specs.shelf.Text.{sameBytes}
@@ -20,10 +20,9 @@ use Rattle.scopes.specs.declared.bindings.Binding.{Binding}
 use Rattle.scopes.specs.declared.declarations.Verdict.{Verdict}
 use Rattle.scopes.specs.declared.declarations.Verdict.the-variants.{Binds, Undeclares, NoEffect, Rejected}
 use Rattle.scopes.specs.Declarations.{bindsOrUndeclares, weighed, takesEffect, Lawful, New, Accepts-lawful}
-use Rattle.scopes.specs.Prefixes.{same, named, reserved}
+use Rattle.scopes.specs.Prefixes.{same, named}
 use Rattle.scopes.specs.Rows.{binds, inRow}
 use Rattle.scopes.proofs.Comparing.{same-decides}
-use Rattle.scopes.proofs.Searching.{blank}
 
 skip : (x y : Bool) → x ≡ false → (x || y) ≡ y
 skip x y n = ap (λ b. b || y) n

@@ -14,7 +14,7 @@ use Rattle.scopes.specs.declared.bindings.Binding.{Binding}
 use Rattle.scopes.specs.declared.bindings.Found.{Found}
 use Rattle.scopes.specs.declared.bindings.Lookup.{Lookup}
 use Rattle.scopes.specs.declared.bindings.Lookup.the-variants.{Declared, BuiltIn, Unbound}
-use Rattle.scopes.specs.Prefixes.{named, reserved}
+use Rattle.scopes.specs.Prefixes.{reserved}
 use Rattle.scopes.specs.Rows.{inRow, nearest}
 
 -- what is built in: no prefix, `xml` and `xmlns`

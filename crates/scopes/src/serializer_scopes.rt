@@ -1,6 +1,5 @@
 // The serializer's table: the bindings that were written on the elements that are still open.
 ghost use mathlib.Core.Path.{_≡_};
-ghost use mathlib.Core.List.{[]};
 ghost use lib.ListN.{length};
 ghost use Rattle.scopes.specs.Held.{base};
 use crate::rows::Rows;

@@ -1,15 +1,13 @@
-use mathlib.Core.Path.{_≡_, sym, ap, _∙_}
+use mathlib.Core.Path.{_≡_, ap, _∙_}
 use mathlib.Core.List.{[]}
 use native.Mathlib.Omega.{arith}
 use lib.ListN.{length, getD}
-use Rattle.std.specs.declared.result.Result.the-variants.{Ok}
-use Rattle.names.specs.declared.qualified.Name.{Name}
 use Rattle.names.specs.BuiltIn.{builtIn}
 use Rattle.names.specs.Names.{numbered}
 use Rattle.names.specs.Table.{texts}
 use Rattle.names.specs.Texts.{begins, fits, added, textAt}
 use Rattle.names.proofs.Seeking.{none-contained, begins-push}
-use Rattle.names.proofs.Entering.{Entered, appended}
+use Rattle.names.proofs.Entering.{appended}
 use Rattle.names.proofs.table.NameTable.append.Needs as need
 
 pub push-requires : need.push-requires

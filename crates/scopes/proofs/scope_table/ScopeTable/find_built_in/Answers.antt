@@ -1,4 +1,4 @@
-use mathlib.Core.Path.{_≡_, sym, ap, _∙_}
+use mathlib.Core.Path.{ap, _∙_}
 use Rattle.scopes.specs.Held.{base}
 use Rattle.scopes.specs.Rows.{inRow}
 use Rattle.scopes.specs.declared.bindings.Lookup.the-variants.{BuiltIn}

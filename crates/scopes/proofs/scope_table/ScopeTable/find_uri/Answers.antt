@@ -1,4 +1,4 @@
-use mathlib.Core.Path.{_≡_, sym, subst, _∙_}
+use mathlib.Core.Path.{sym, subst, _∙_}
 use mathlib.Core.List.{_∷_}
 use Rattle.scopes.specs.Scoping.{Scoped}
 use Rattle.scopes.specs.Tables.{rowsOf}
