@@ -45,9 +45,6 @@ module _ (xs es raw bs t : List ℕ) (i f : ℕ) (r : Bool) (e : xs ≡ es) (v :
   pub seek-on : r ≡ false → seek i (cuts f (drop i es) bs) t ≡ seek (i + 1) (cuts (getD xs i 0) (drop (i + 1) es) bs) t
   seek-on h = step ∙ cond-false r _ _ h
 
-same-refl : (t : List ℕ) → sameBytes t t ≡ true
-same-refl t = sameBytes-decides t t .1 refl
-
 same-sym : (t u : List ℕ) → sameBytes t u ≡ sameBytes u t
 same-sym t u = same-from-decides _ _ (sameBytes-decides t u) ((λ h. sym (sameBytes-decides u t .0 h)), (λ e. sameBytes-decides u t .1 (sym e)))
 

@@ -84,13 +84,6 @@ look-found rows p f h e =
       | inr n ↦ ap (λ o. declaredOr o (builtIn p)) e ∙ sym (cond-false _ _ _ n)
     ]
 
-pub look-none : (rows : List (List Binding)) (p : Option Name) → None ≡ nearest rows p → builtIn p ≡ look rows p
-look-none rows p e =
-    elim (cases-bool (reserved p)) [
-      | inl y ↦ sym (cond-true _ _ _ y)
-      | inr n ↦ ap (λ o. declaredOr o (builtIn p)) e ∙ sym (cond-false _ _ _ n)
-    ]
-
 -- the same with a tag inside the rows
 pub tag-look : (tag : List Binding) (rows : List (List Binding)) (p : Option Name) → declaredOr (onTag (length rows) tag p) (look rows p) ≡ look (tag ∷ rows) p
 tag-look tag rows p =

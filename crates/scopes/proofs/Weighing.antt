@@ -5,20 +5,18 @@ use mathlib.Core.List.{List, [], _∷_}
 use mathlib.Core.Logic.{inl, inr}
 use Prim.Native.Nat.{ℕ, zero, suc, _+_}
 use native.Mathlib.Omega.{arith}
-use lib.Dec.{eqb}
-use lib.ListN.{length}
 use Rattle.std.specs.Options.{isSome}
 use Rattle.std.specs.Orderings.{Decides}
 use Rattle.std.specs.shelf.Text.{sameBytes}
 use Rattle.std.specs.declared.option.Option.{Option}
 use Rattle.std.proofs.shelf.Equals.{sameBytes-decides}
-use Rattle.std.proofs.shelf.Tests.{cond-true, cond-false, cases-bool, or-parts, or-left, or-right, or-from, eqb-true, eqb-false, both-ways, false≢true}
+use Rattle.std.proofs.shelf.Tests.{cond-true, cond-false, cases-bool, or-parts, or-left, or-right, or-from, both-ways, false≢true}
 use Rattle.names.specs.declared.errors.ErrorCode.the-variants.{XmlnsUriDeclared, XmlPrefixDeclared, XmlnsPrefixDeclared, DeclaredTwice}
 use Rattle.names.specs.declared.qualified.Name.{Name}
 use Rattle.names.specs.BuiltIn.{xmlUri, xmlnsUri}
 use Rattle.scopes.specs.declared.bindings.Binding.{Binding}
 use Rattle.scopes.specs.declared.declarations.Verdict.{Verdict}
-use Rattle.scopes.specs.declared.declarations.Verdict.the-variants.{Binds, Undeclares, NoEffect, Rejected}
+use Rattle.scopes.specs.declared.declarations.Verdict.the-variants.{NoEffect, Rejected}
 use Rattle.scopes.specs.Declarations.{bindsOrUndeclares, weighed, takesEffect, Lawful, New, Accepts-lawful}
 use Rattle.scopes.specs.Prefixes.{same, named}
 use Rattle.scopes.specs.Rows.{binds, inRow}
@@ -49,14 +47,6 @@ is-new : (bs : List Binding) (p : Option Name) → binds bs p ≡ false → New 
 is-new [] p h i lt e = omega arith
 is-new (b ∷ bs) p h zero lt e = both-ways _ (or-parts (same (b .prefix) p) (binds bs p) h .0) (same-decides (b .prefix) p .1 e)
 is-new (b ∷ bs) p h (suc i) lt e = is-new bs p (or-parts (same (b .prefix) p) (binds bs p) h .1) i (omega arith) e
-
-pub empty-undeclares : (v : List ℕ) → eqb (length v) 0 ≡ true → bindsOrUndeclares v ≡ Undeclares
-empty-undeclares [] h = refl
-empty-undeclares (c ∷ cs) h = absurd (omega (arith, eqb-true (suc (length cs)) 0 h))
-
-pub other-binds : (v : List ℕ) → eqb (length v) 0 ≡ false → bindsOrUndeclares v ≡ Binds
-other-binds [] h = absurd (eqb-false 0 0 h refl)
-other-binds (c ∷ cs) h = refl
 
 effect : (v : List ℕ) → takesEffect (bindsOrUndeclares v) ≡ true
 effect [] = refl
