@@ -29,7 +29,7 @@ abbrev pub total : List (List ℕ) → ℕ
 total [] = 0
 total (t ∷ ts) = length t + total ts
 
--- the number of one name more, of `len` bytes, beside `held` names of `bytes` bytes: at most 512 names and 16,384 bytes
+-- the number of one name more, of `len` bytes, beside `held` names of `bytes` bytes: the limits are 512 and 16,384
 abbrev pub fits : ℕ → ℕ → ℕ → Result Name NameFault
 fits held bytes len =
     cond (ltb held 512) (cond (leb (bytes + len) 16384) (Ok (numbered held)) (Err (TooManyBytes held))) (Err (TooManyNames held))

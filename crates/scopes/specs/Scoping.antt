@@ -33,8 +33,8 @@ pub record Declares (elements : List (List Binding)) (p : Option Name) (k i : �
   pub place : i < length (tagOf elements k)
   pub prefix : declarationAt elements k i .prefix ≡ p
 
--- a declaration's scope is its element and all that is inside, but for the scope of an inner declaration of the same prefix;
--- a tag declares a prefix once, so that of several the first counts
+-- a declaration holds from its own start tag to the matching end tag, save where an element further in declares the same
+-- prefix again; a tag declares a prefix once, so of several declarations the first counts
 pub record InScope (elements : List (List Binding)) (p : Option Name) (k i : ℕ) : Type 0 where
   pub declares : Declares elements p k i
   pub innermost : (j m : ℕ) → k < j → Declares elements p j m → ⊥

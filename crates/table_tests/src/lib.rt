@@ -1,4 +1,4 @@
-// Tests of names and scopes: every limit at full and one beyond, and the rules by example.
+// Tests of names and scopes: the limits, reached and passed, and the rules by example.
 #[cfg(test)]
 mod declaration_tests;
 #[cfg(test)]
