@@ -1,4 +1,4 @@
--- What one text more means for the ends and the cuts, and where the text at a place stands. Assumes nothing.
+-- Bytes cut into texts: adding one, counting them, and finding one by its place. Assumes nothing.
 use mathlib.Core.Path.{_≡_, refl, sym, ap, _∙_}
 use mathlib.Core.Bool.{true}
 use mathlib.Core.List.{List, [], _∷_, _++_}
@@ -20,7 +20,7 @@ within f [] n h = omega (arith, eqb-true f n h)
 within f (e ∷ es) n h =
     let p = and-parts (leb f e) (chained e es n) h in omega (arith, leb-true f e (p .0), within e es n (p .1))
 
--- the first text lies within the bytes, and the rest is chained on
+-- the bounds of the first text, and the chain of the others
 pub record Front (f e : ℕ) (es : List ℕ) (n : ℕ) : Type 0 where
   pub low : f ≤ e
   pub high : e ≤ n

@@ -22,14 +22,14 @@ use Rattle.names.specs.Cuts.{chained, cuts}
 use Rattle.names.specs.Texts.{seek, contains, distinct, begins, textAt, Number-of}
 use Rattle.names.proofs.Cutting.{Front, front}
 
--- the text that the loop has come to lies within the bytes
+-- the bounds of the text at place i
 pub front-at : (xs es : List ℕ) (i f n : ℕ) → xs ≡ es → i < length xs → chained f (drop i es) n ≡ true → Front f (getD xs i 0) (drop (i + 1) es) n
 front-at xs es i f n e lt h =
     let l : i < length es = omega (arith, ap length e) in
     let g : chained f (getD es i 0 ∷ drop (i + 1) es) n ≡ true = ap (λ x. chained f x n) (sym (drop-more es i 0 l)) ∙ h in
     rw e (front f (getD es i 0) (drop (i + 1) es) n g)
 
--- the loop compares the text that it has come to, and stops or goes on
+-- one comparison of the search: it ends there, or goes on
 module _ (xs es raw bs t : List ℕ) (i f : ℕ) (r : Bool) (e : xs ≡ es) (v : raw ≡ bs) (lt : i < length xs) (d : Decides r (between f (getD xs i 0) raw ≡ t)) where
   step : seek i (cuts f (drop i es) bs) t ≡ cond r (Some (numbered i)) (seek (i + 1) (cuts (getD xs i 0) (drop (i + 1) es) bs) t)
   step =

@@ -6,12 +6,12 @@ use lib.Dec.{eqb, leb}
 use lib.ListN.{getD}
 use Rattle.std.specs.Holes.{between}
 
--- the ends go up from `from`, and the last is n
+-- each end is at or after the one before it, the first at or after `from`, and all bytes up to n are used
 abbrev pub chained : ℕ → List ℕ → ℕ → Bool
 chained from [] n = eqb from n
 chained from (e ∷ es) n = leb from e && chained e es n
 
--- the texts in bs that end at es, the first of which begins at `from`
+-- bs cut at the ends es, beginning at `from`: one text for each end
 abbrev pub cuts : ℕ → List ℕ → List ℕ → List (List ℕ)
 cuts from [] bs = []
 cuts from (e ∷ es) bs = between from e bs ∷ cuts e es bs

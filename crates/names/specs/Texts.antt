@@ -19,12 +19,12 @@ use Rattle.names.specs.Names.{numbered}
 abbrev pub textAt : List (List ℕ) → ℕ → Option (List ℕ)
 textAt ts n = cond (ltb n (length ts)) (Some (getD ts n [])) None
 
--- the number of the first text that equals t, where the first of all has the number i
+-- the search for t among texts that are numbered from i on
 abbrev pub seek : ℕ → List (List ℕ) → List ℕ → Option Name
 seek i [] t = None
 seek i (u ∷ us) t = cond (sameBytes u t) (Some (numbered i)) (seek (i + 1) us t)
 
--- how many bytes the texts have together
+-- the bytes of all texts
 abbrev pub total : List (List ℕ) → ℕ
 total [] = 0
 total (t ∷ ts) = length t + total ts

@@ -2,7 +2,7 @@
 ghost use mathlib.Core.Path.{_≡_};
 ghost use Rattle.names.specs.Names.{expandedOf};
 
-// The number of a text in a name table.
+// A name: the place of its text in a name table.
 #[derive(Clone, Copy, PartialEq, Eq)]
 pub struct Name(pub u16);
 

@@ -20,7 +20,7 @@ pub struct Refusal {
     pub place: u64,
 }
 
-// Why a text is not entered. `held` is how many names the table holds.
+// The limit that a new text would pass. `held` is how many names the table holds.
 #[derive(Clone, Copy)]
 pub enum NameFault {
     TooManyNames { held: usize },

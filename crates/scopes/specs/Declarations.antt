@@ -34,7 +34,7 @@ abbrev pub bindsOrUndeclares : List ℕ → Verdict
 bindsOrUndeclares [] = Undeclares
 bindsOrUndeclares (c ∷ cs) = Binds
 
--- a declaration of p with the value v, after those that were accepted on its tag: the first line that fits
+-- what comes of declaring p with the value v, where `tag` was accepted before: the lines are tried in turn
 abbrev pub weighed : List Binding → Option Name → List ℕ → Verdict
 weighed tag p v =
     cond (sameBytes v xmlnsUri) (Rejected XmlnsUriDeclared)

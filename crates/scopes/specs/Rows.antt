@@ -16,7 +16,7 @@ use Rattle.scopes.specs.declared.faults.ScopeFault.{ScopeFault}
 use Rattle.scopes.specs.declared.faults.ScopeFault.the-variants.{TooManyRows, TooManyBindings, Reserved, NoOpenRow}
 use Rattle.scopes.specs.Prefixes.{same, reserved}
 
--- how many bindings the rows have together
+-- the bindings of all rows, counted
 abbrev pub size : List (List Binding) → ℕ
 size [] = 0
 size (row ∷ rows) = length row + size rows

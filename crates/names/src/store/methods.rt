@@ -44,7 +44,7 @@ impl TextStore {
         self.ends.len()
     }
 
-    // How many bytes the texts have together.
+    // How many bytes are used.
     pub(crate) fn bytes(&self) -> usize
         ensures value { λ r. ⌜ r ≡ total (held (now (self .entry))) ⌝ }
         ensures bound { λ r. ⌜ r ≤ 16384 ⌝ }

@@ -16,7 +16,7 @@ use Rattle.names.proofs.Cutting.{Front}
 use Rattle.names.proofs.Seeking.{front-at, seek-here, seek-on, number-of}
 use Rattle.names.proofs.store.TextStore.find.Needs as need
 
--- the text that the loop has come to
+-- the bounds of the text that is compared
 here : (c : need.After-deref) → Front (c .loop-i .start) (getD (c .deref-end-items .result .now) (c .loop-i .i) 0) (drop (c .loop-i .i + 1) (vec-items (c .args .self .now .ends))) (vec-len (c .args .self .now .bytes))
 here c = front-at _ _ _ _ _ (c .deref-end-items .ensures .value) (c .loop-i-test .taken) (c .loop-i .inv .0)
 

@@ -7,7 +7,7 @@ use Rattle.names.specs.Held.{held}
 use Rattle.names.specs.Texts.{seek}
 use Rattle.names.proofs.store.TextStore.find.Given as given
 
--- what is left to look through gives the answer
+-- the texts from `start` on, with the ends not yet seen, give the same answer as all
 abbrev pub Inv-loop-i : given.InvT-loop-i
 Inv-loop-i l =
     (chained (l .start) (drop (l .i) (vec-items (l .self .ends))) (vec-len (l .self .bytes)) ≡ true)

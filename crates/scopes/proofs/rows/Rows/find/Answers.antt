@@ -12,7 +12,7 @@ use Rattle.scopes.proofs.Searching.{rows-step}
 use Rattle.scopes.proofs.Relating.{answered}
 use Rattle.scopes.proofs.rows.Rows.find.Needs as need
 
--- the row that the loop has come to
+-- the bounds of the row that is searched
 here : (c : need.After-start·1) → Top (c .args .self .now .bottom) (c .args .self .now .starts) (c .loop-row .row - 1) (c .loop-row .end)
 here c = close-top _ _ (c .loop-row .row) _ (λ z. omega (arith, c .loop-row-test .taken)) (c .loop-row .inv .0)
 
