@@ -1,0 +1,132 @@
+// Open elements, and where the names of a tag find their namespaces.
+use crate::stop::Stop;
+use crate::stop::StopFromRefused;
+use names::ErrorCode;
+use names::ExpandedName;
+use names::ExpandedNamePartialEq;
+use names::Name;
+use names::NamePartialEq;
+use names::QualName;
+use scopes::Binding;
+use scopes::Lookup;
+use scopes::ScopeTable;
+use std::alloc::Global;
+
+// A listing has a tag on one line, so all declarations of an element stand on the line of its tag.
+#[derive(Clone, Copy)]
+pub(crate) struct OpenElement {
+    pub(crate) name: QualName,
+    pub(crate) line: usize,
+}
+
+// Where the innermost of the open elements with this name stands, counted from the outermost.
+pub(crate) fn innermost(open: &[OpenElement], name: ExpandedName) -> Option<usize> {
+    let mut found = None;
+    for (i, element) in open.iter().enumerate() {
+        if element.name.expanded() == name {
+            found = Some(i);
+        }
+    }
+    found
+}
+
+#[derive(Clone, Copy)]
+pub(crate) enum Item {
+    Element,
+    Attribute,
+}
+
+// Why a name is in a namespace, or in none.
+#[derive(Clone, Copy)]
+pub(crate) enum Origin {
+    Declared { ns: Name, line: usize },
+    BuiltIn(Name),
+    Undeclared { line: usize },
+    Unbound,
+    NoDefault,
+    NoPrefix,
+}
+
+// A name with its namespace.
+#[derive(Clone, Copy)]
+pub(crate) struct Resolved {
+    pub(crate) item: Item,
+    pub(crate) name: QualName,
+    pub(crate) origin: Origin,
+    pub(crate) error: Option<ErrorCode>,
+}
+
+// What a tag sees: the open elements, the bindings in force there and its own.
+#[derive(Clone, Copy)]
+pub(crate) struct View<'a> {
+    pub(crate) open: &'a [OpenElement],
+    pub(crate) scopes: &'a ScopeTable,
+    pub(crate) bindings: &'a [Binding],
+    pub(crate) line: usize,
+}
+
+// The line of a row. The tag itself has the row after those of the open elements.
+fn row_line(view: View<'_>, row: usize) -> usize {
+    match view.open.get(row) {
+        Some(element) => element.line,
+        None => view.line,
+    }
+}
+
+fn origin_of(view: View<'_>, lookup: Lookup) -> Origin {
+    match lookup {
+        Lookup::Declared(found) => {
+            let line = row_line(view, found.row);
+            match found.ns {
+                Some(ns) => Origin::Declared { ns, line },
+                None => Origin::Undeclared { line },
+            }
+        }
+        Lookup::BuiltIn(ns) if ns == Name::EMPTY => Origin::NoDefault,
+        Lookup::BuiltIn(ns) => Origin::BuiltIn(ns),
+        Lookup::Unbound => Origin::Unbound,
+    }
+}
+
+pub(crate) fn resolve(view: View<'_>, item: Item, name: QualName) -> Resolved {
+    let lookup = view.scopes.find_uri(view.bindings, name.prefix);
+    let QualName {
+        prefix,
+        ns: _,
+        local,
+    } = name;
+    let ns = lookup.namespace();
+    Resolved {
+        item,
+        name: QualName { prefix, ns, local },
+        origin: origin_of(view, lookup),
+        error: lookup.error(prefix),
+    }
+}
+
+// An attribute without a prefix has no namespace, and is not looked up.
+fn resolve_attribute(view: View<'_>, name: QualName) -> Resolved {
+    match name.prefix {
+        Some(_) => resolve(view, Item::Attribute, name),
+        None => {
+            Resolved {
+                item: Item::Attribute,
+                name,
+                origin: Origin::NoPrefix,
+                error: None,
+            }
+        }
+    }
+}
+
+pub(crate) fn resolve_attributes(
+    heap: Global,
+    view: View<'_>,
+    attrs: &[QualName],
+) -> Result<Vec<Resolved>, Stop> {
+    let mut all = Vec::new(heap);
+    for name in attrs {
+        all.push(resolve_attribute(view, *name))?;
+    }
+    Ok(all)
+}

@@ -1,0 +1,295 @@
+// Reads a listing token by token, and prints each tag with the namespaces of its names.
+use crate::element::Item;
+use crate::element::OpenElement;
+use crate::element::Resolved;
+use crate::element::View;
+use crate::element::innermost;
+use crate::element::resolve;
+use crate::element::resolve_attributes;
+use crate::stop::Stop;
+use crate::stop::StopFromAlloc;
+use crate::stop::StopFromFmt;
+use crate::stop::StopFromListing;
+use crate::stop::StopFromRefused;
+use crate::stop::StopFromScopes;
+use crate::tag::Tag;
+use crate::tag::Weighed;
+use crate::tag::enter_tag;
+use crate::tag::weigh_all;
+use crate::tally::Tally;
+use crate::write::write_closed;
+use crate::write::write_declaration;
+use crate::write::write_head;
+use crate::write::write_resolved;
+use listing::ListedKind;
+use listing::ListedTag;
+use listing::ListedToken;
+use listing::read_token;
+use names::NameTable;
+use names::QualName;
+use scopes::Binding;
+use scopes::ScopeFault;
+use scopes::ScopeTable;
+use std::alloc::AllocError;
+use std::alloc::Global;
+use std::fmt;
+use std::fmt::Write;
+
+// The most bindings at once, the built-in ones and those of the tag counted.
+const MOST_BINDINGS: usize = 256;
+
+// Before the root element, inside it, and after the document has ended on a line.
+#[derive(Clone, Copy)]
+enum Phase {
+    Start,
+    Main,
+    End { line: usize },
+}
+
+// The table has a row for each open element.
+#[derive(Drop)]
+pub(crate) struct Reading {
+    names: NameTable,
+    scopes: ScopeTable,
+    open: Vec<OpenElement>,
+    phase: Phase,
+    tally: Tally,
+}
+
+// The table after the tag. Only a start tag's bindings stay, but those of every tag have to find room.
+fn scopes_after(
+    scopes: ScopeTable,
+    kind: ListedKind,
+    bindings: &[Binding],
+) -> Result<ScopeTable, ScopeFault> {
+    let mut after = match kind {
+        ListedKind::Start => scopes.open_row()?,
+        ListedKind::Empty | ListedKind::End => scopes,
+    };
+    if scopes.binding_count().saturating_add(bindings.len()) > MOST_BINDINGS {
+        return Err(ScopeFault::TooManyBindings);
+    }
+    if let ListedKind::Start = kind {
+        for binding in bindings {
+            after = after.add(*binding)?;
+        }
+    }
+    Ok(after)
+}
+
+fn after_end_of_file(phase: Phase, line: usize) -> Phase {
+    match phase {
+        Phase::Start | Phase::Main => Phase::End { line },
+        Phase::End { .. } => phase,
+    }
+}
+
+// An empty tag as the root is the whole document.
+fn after_empty(phase: Phase, line: usize) -> Phase {
+    match phase {
+        Phase::Start => Phase::End { line },
+        Phase::Main | Phase::End { .. } => phase,
+    }
+}
+
+fn after_null(phase: Phase, line: usize) -> Phase {
+    match phase {
+        Phase::Main => Phase::End { line },
+        Phase::Start | Phase::End { .. } => phase,
+    }
+}
+
+// An end tag needs an open element, and after its end a document has no tags.
+fn is_bound(phase: Phase, kind: ListedKind) -> bool {
+    match (phase, kind) {
+        (Phase::End { .. }, _) => false,
+        (Phase::Start, ListedKind::End) => false,
+        (Phase::Start | Phase::Main, _) => true,
+    }
+}
+
+fn write_phase(out: &mut String, what: &str, phase: Phase) -> fmt::Result {
+    match phase {
+        Phase::Start => writeln!(out, "  {what}: the root element has not begun"),
+        Phase::Main => writeln!(out, "  {what}"),
+        Phase::End { line } => writeln!(out, "  {what}: the document has ended on line {line}"),
+    }
+}
+
+impl Reading {
+    pub(crate) fn new(heap: Global) -> Result<Reading, AllocError> {
+        Ok(Reading {
+            names: NameTable::new(heap)?,
+            scopes: ScopeTable::new(),
+            open: Vec::new(heap),
+            phase: Phase::Start,
+            tally: Tally::new(heap),
+        })
+    }
+
+    pub(crate) fn read_line(
+        &mut self,
+        heap: Global,
+        line: usize,
+        text: &[u8],
+        out: &mut String,
+    ) -> Result<(), Stop> {
+        match read_token(heap, text)? {
+            Some(token) => self.take_token(heap, line, token, out),
+            None => Ok(()),
+        }
+    }
+
+    // Tokens that are no tags and end nothing leave all as it is.
+    fn take_token(
+        &mut self,
+        heap: Global,
+        line: usize,
+        token: ListedToken,
+        out: &mut String,
+    ) -> Result<(), Stop> {
+        match token {
+            ListedToken::Tag(tag) => self.take_tag(heap, line, tag, out)?,
+            ListedToken::ShortTag => self.take_short(line, out)?,
+            ListedToken::NullCharacter => self.phase = after_null(self.phase, line),
+            ListedToken::EndOfFile => self.phase = after_end_of_file(self.phase, line),
+            _ => {}
+        }
+        Ok(())
+    }
+
+    fn take_tag(
+        &mut self,
+        heap: Global,
+        line: usize,
+        listed: ListedTag,
+        out: &mut String,
+    ) -> Result<(), Stop> {
+        write_head(out, line, &listed)?;
+        self.tally.count_tag();
+        let tag = enter_tag(heap, &mut self.names, listed)?;
+        if is_bound(self.phase, tag.kind) {
+            self.bind_tag(heap, line, tag, out)
+        } else {
+            write_phase(out, "not bound", self.phase)?;
+            Ok(())
+        }
+    }
+
+    // Everything that can refuse the tag comes before the first change.
+    fn bind_tag(
+        &mut self,
+        heap: Global,
+        line: usize,
+        tag: Tag,
+        out: &mut String,
+    ) -> Result<(), Stop> {
+        let weighed = weigh_all(heap, &mut self.names, tag.declarations.as_slice())?;
+        let bindings = weighed.bindings.as_slice();
+        let scopes = scopes_after(self.scopes, tag.kind, bindings)?;
+        let view = View {
+            open: self.open.as_slice(),
+            scopes: &self.scopes,
+            bindings,
+            line,
+        };
+        let attrs = resolve_attributes(heap, view, tag.attrs.as_slice())?;
+        let element = resolve(view, Item::Element, tag.name);
+        self.print_declarations(&tag, &weighed, out)?;
+        self.print_names(line, attrs.as_slice(), out)?;
+        self.print_names(line, &[element], out)?;
+        self.scopes = scopes;
+        self.finish_tag(line, tag.kind, element.name, out)
+    }
+
+    fn print_declarations(
+        &mut self,
+        tag: &Tag,
+        weighed: &Weighed,
+        out: &mut String,
+    ) -> Result<(), Stop> {
+        for (declaration, verdict) in tag.declarations.iter().zip(weighed.verdicts.iter()) {
+            write_declaration(out, &self.names, declaration, *verdict)?;
+            self.tally.note_error(verdict.error())?;
+        }
+        Ok(())
+    }
+
+    fn print_names(
+        &mut self,
+        line: usize,
+        resolved: &[Resolved],
+        out: &mut String,
+    ) -> Result<(), Stop> {
+        for name in resolved {
+            write_resolved(out, &self.names, *name)?;
+            self.tally.note_name(line, *name)?;
+        }
+        Ok(())
+    }
+
+    fn finish_tag(
+        &mut self,
+        line: usize,
+        kind: ListedKind,
+        name: QualName,
+        out: &mut String,
+    ) -> Result<(), Stop> {
+        self.tally.count_bound(kind);
+        match kind {
+            ListedKind::Start => {
+                self.open.push(OpenElement { name, line })?;
+                self.phase = Phase::Main;
+                Ok(())
+            }
+            ListedKind::Empty => {
+                self.phase = after_empty(self.phase, line);
+                Ok(())
+            }
+            ListedKind::End => self.end_element(line, name, out),
+        }
+    }
+
+    fn end_element(&mut self, line: usize, name: QualName, out: &mut String) -> Result<(), Stop> {
+        match innermost(self.open.as_slice(), name.expanded()) {
+            Some(at) => self.close_from(at, line, out),
+            None => {
+                out.write_str("  closes nothing: no open element has this name\n")?;
+                Ok(())
+            }
+        }
+    }
+
+    fn take_short(&mut self, line: usize, out: &mut String) -> Result<(), Stop> {
+        writeln!(out, "line {line}: short")?;
+        match self.phase {
+            Phase::Main => self.close_from(self.open.len().saturating_sub(1), line, out),
+            Phase::Start | Phase::End { .. } => {
+                write_phase(out, "closes nothing", self.phase)?;
+                Ok(())
+            }
+        }
+    }
+
+    // Closes the open element at a place, and all inside it.
+    fn close_from(&mut self, at: usize, line: usize, out: &mut String) -> Result<(), Stop> {
+        let count = self.open.len();
+        let Some(element) = self.open.get(at).copied() else {
+            return Ok(());
+        };
+        let inside = count.saturating_sub(at).saturating_sub(1);
+        write_closed(out, &self.names, element, inside)?;
+        self.open.truncate(at);
+        for _ in at..count {
+            self.scopes = self.scopes.close_row()?;
+        }
+        if self.open.is_empty() {
+            self.phase = Phase::End { line };
+        }
+        Ok(())
+    }
+
+    pub(crate) fn write_summary(&self, out: &mut String) -> fmt::Result {
+        self.tally.write_summary(out, &self.names)
+    }
+}
