@@ -262,8 +262,9 @@ impl Reading {
 
     fn take_short(&mut self, line: usize, out: &mut String) -> Result<(), Stop> {
         writeln!(out, "line {line}: short")?;
+        let last = self.open.len().saturating_sub(1);
         match self.phase {
-            Phase::Main => self.close_from(self.open.len().saturating_sub(1), line, out),
+            Phase::Main => self.close_from(last, line, out),
             Phase::Start | Phase::End { .. } => {
                 write_phase(out, "closes nothing", self.phase)?;
                 Ok(())
