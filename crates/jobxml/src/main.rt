@@ -2,23 +2,31 @@
 use reports::Command;
 use reports::HELP;
 use reports::Input;
-use reports::Report;
 use reports::UsageDisplay;
 use reports::parse;
 use reports::scopes_report;
-use std::alloc::AllocError;
 use std::env;
 use std::fs;
 use std::io;
 use std::io::Read;
 
-// Nothing more is to be said: the message or the report stands already.
+// What went wrong stands on standard error or in the report already, so the status is all that is left to give.
 #[derive(Clone, Copy)]
 struct Failed;
 
-impl From<io::Error> for Failed as FailedFromIo {
-    fn from(_e: io::Error) -> Failed {
-        Failed
+// Where standard error fails too, there is nowhere left to say so.
+fn say_fault(rt: &LibcRuntime, what: &str, name: &str, fault: io::Error) -> Failed {
+    let _ = eprintln!(
+        rt,
+        "jobxml: cannot {what} {name}: {fault}; see jobxml --help"
+    );
+    Failed
+}
+
+fn print_text(rt: &LibcRuntime, text: &str) -> Result<(), Failed> {
+    match rt.print(text) {
+        Ok(()) => Ok(()),
+        Err(e) => Err(say_fault(rt, "write", "to standard output", e)),
     }
 }
 
@@ -35,52 +43,43 @@ fn read_input(rt: &LibcRuntime, input: Input<'_>) -> Result<Vec<u8>, Failed> {
     };
     match read {
         Ok(bytes) => Ok(bytes),
-        Err(e) => {
-            eprintln!(rt, "jobxml: cannot read {name}: {e}; see jobxml --help")?;
-            Err(Failed)
-        }
+        Err(e) => Err(say_fault(rt, "read", name, e)),
     }
 }
 
-fn print_report(rt: &LibcRuntime, report: Result<Report, AllocError>) -> Result<(), Failed> {
-    match report {
+fn print_scopes(rt: &LibcRuntime, listing: &[u8]) -> Result<(), Failed> {
+    match scopes_report(rt.alloc(), listing) {
         Ok(report) => {
-            rt.print(report.text.as_str())?;
+            print_text(rt, report.text.as_str())?;
             if report.complete { Ok(()) } else { Err(Failed) }
         }
-        Err(_) => {
-            eprintln!(rt, "jobxml: out of memory")?;
-            Err(Failed)
-        }
+        Err(e) => Err(say_fault(rt, "make", "the report", io::Error::from(e))),
     }
 }
 
 fn run(rt: &LibcRuntime, command: Command<'_>) -> Result<(), Failed> {
     match command {
-        Command::Help => {
-            rt.print(HELP)?;
-            Ok(())
-        }
+        Command::Help => print_text(rt, HELP),
         Command::Scopes(input) => {
             let listing = read_input(rt, input)?;
-            print_report(rt, scopes_report(rt.alloc(), listing.as_slice()))
+            print_scopes(rt, listing.as_slice())
         }
     }
 }
 
-fn words(rt: &LibcRuntime) -> Result<Vec<String>, Failed> {
-    match env::args(rt)?.skip(1).collect(rt.alloc()) {
-        Ok(words) => Ok(words),
-        Err(_) => Err(Failed),
-    }
+fn words_given(rt: &LibcRuntime) -> io::Result<Vec<String>> {
+    Ok(env::args(rt)?.skip(1).collect(rt.alloc())?)
 }
 
 fn main(rt: LibcRuntime) -> Result<(), Failed> {
-    let words = words(&rt)?;
+    let words = match words_given(&rt) {
+        Ok(words) => words,
+        Err(e) => return Err(say_fault(&rt, "read", "the arguments", e)),
+    };
     match parse(words.as_slice()) {
         Ok(command) => run(&rt, command),
         Err(usage) => {
-            eprint!(rt, "{usage}")?;
+            let _ = eprint!(rt, "{usage}");
             Err(Failed)
         }
     }

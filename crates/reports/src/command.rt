@@ -77,10 +77,6 @@ pub impl fmt::Display for Usage<'_> as UsageDisplay {
     }
 }
 
-fn is_help(word: &str) -> bool {
-    word == "--help" || word == "-h"
-}
-
 fn is_option(word: &str) -> bool {
     word != "-" && word.starts_with('-')
 }
@@ -89,7 +85,7 @@ fn scopes_input(words: &[String]) -> Result<Command<'_>, Usage<'_>> {
     let mut input = None;
     for word in words {
         let word = word.as_str();
-        if is_help(word) {
+        if word == "--help" || word == "-h" {
             return Ok(Command::Help);
         }
         if is_option(word) {

@@ -65,18 +65,14 @@ pub(crate) struct View<'a> {
     pub(crate) line: usize,
 }
 
-// The line of a row. The tag itself has the row after those of the open elements.
-fn row_line(view: View<'_>, row: usize) -> usize {
-    match view.open.get(row) {
-        Some(element) => element.line,
-        None => view.line,
-    }
-}
-
+// The tag itself has the row after those of the open elements.
 fn origin_of(view: View<'_>, lookup: Lookup) -> Origin {
     match lookup {
         Lookup::Declared(found) => {
-            let line = row_line(view, found.row);
+            let line = match view.open.get(found.row) {
+                Some(element) => element.line,
+                None => view.line,
+            };
             match found.ns {
                 Some(ns) => Origin::Declared { ns, line },
                 None => Origin::Undeclared { line },

@@ -77,6 +77,7 @@ fn scopes_after(
     Ok(after)
 }
 
+// The end of the file ends the document, unless it has ended before.
 fn after_end_of_file(phase: Phase, line: usize) -> Phase {
     match phase {
         Phase::Start | Phase::Main => Phase::End { line },
@@ -84,14 +85,7 @@ fn after_end_of_file(phase: Phase, line: usize) -> Phase {
     }
 }
 
-// An empty tag as the root is the whole document.
-fn after_empty(phase: Phase, line: usize) -> Phase {
-    match phase {
-        Phase::Start => Phase::End { line },
-        Phase::Main | Phase::End { .. } => phase,
-    }
-}
-
+// A null character ends the document only inside the root element.
 fn after_null(phase: Phase, line: usize) -> Phase {
     match phase {
         Phase::Main => Phase::End { line },
@@ -140,7 +134,6 @@ impl Reading {
         }
     }
 
-    // Tokens that are no tags and end nothing leave all as it is.
     fn take_token(
         &mut self,
         heap: Global,
@@ -151,8 +144,8 @@ impl Reading {
         match token {
             ListedToken::Tag(tag) => self.take_tag(heap, line, tag, out)?,
             ListedToken::ShortTag => self.take_short(line, out)?,
-            ListedToken::NullCharacter => self.phase = after_null(self.phase, line),
             ListedToken::EndOfFile => self.phase = after_end_of_file(self.phase, line),
+            ListedToken::NullCharacter => self.phase = after_null(self.phase, line),
             _ => {}
         }
         Ok(())
@@ -243,7 +236,10 @@ impl Reading {
                 Ok(())
             }
             ListedKind::Empty => {
-                self.phase = after_empty(self.phase, line);
+                // An empty tag as the root is the whole document.
+                if let Phase::Start = self.phase {
+                    self.phase = Phase::End { line };
+                }
                 Ok(())
             }
             ListedKind::End => self.end_element(line, name, out),

@@ -42,6 +42,9 @@ fn render(heap: Global, listing: &[u8]) -> Result<Report, Stop> {
     let mut text = String::new(heap);
     let complete = read_all(heap, &mut reading, listing, &mut text)?;
     reading.write_summary(&mut text)?;
+    if !complete {
+        text.push_str("  the listing was not read to its end\n")?;
+    }
     Ok(Report { text, complete })
 }
 

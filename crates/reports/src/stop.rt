@@ -1,4 +1,4 @@
-// Why a reading ends before its listing does.
+// Why a reading ends before its listing does, with the plain words for refusals.
 use listing::Expected;
 use listing::ListingFault;
 use names::NameFault;
@@ -12,8 +12,9 @@ use std::fmt;
 pub(crate) enum Stop {
     Memory,
     Malformed(Expected),
-    Names(NameFault),
-    Scopes(ScopeFault),
+    Refusal { number: u8, words: &'static str },
+    // A call that a reading never makes was refused.
+    Mistake(&'static str),
 }
 
 pub(crate) impl From<AllocError> for Stop as StopFromAlloc {
@@ -46,12 +47,30 @@ pub(crate) impl From<ListingFault> for Stop as StopFromListing {
 
 pub(crate) impl From<NameFault> for Stop as StopFromNames {
     fn from(fault: NameFault) -> Stop {
-        Stop::Names(fault)
+        let words = match fault {
+            NameFault::TooManyNames { .. } => "there would be more than 512 different names",
+            NameFault::TooManyBytes { .. } => {
+                "the different names would have more than 16384 bytes together"
+            }
+        };
+        Stop::Refusal {
+            number: fault.refusal().number,
+            words,
+        }
     }
 }
 
 pub(crate) impl From<ScopeFault> for Stop as StopFromScopes {
     fn from(fault: ScopeFault) -> Stop {
-        Stop::Scopes(fault)
+        let words = match fault {
+            ScopeFault::TooManyRows => "there would be more than 128 open elements",
+            ScopeFault::TooManyBindings => "there would be more than 256 bindings at once",
+            ScopeFault::Reserved => "xml or xmlns was to be bound",
+            ScopeFault::NoOpenRow => "there is no open element",
+        };
+        match fault.number() {
+            Some(number) => Stop::Refusal { number, words },
+            None => Stop::Mistake(words),
+        }
     }
 }

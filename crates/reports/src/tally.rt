@@ -40,14 +40,6 @@ const KINDS: [ErrorCode; 5] = [
     ErrorCode::UnboundPrefix,
 ];
 
-// An attribute without a prefix is meant to have no namespace, so it is no stray.
-fn is_stray(origin: Origin) -> bool {
-    match origin {
-        Origin::Undeclared { .. } | Origin::Unbound | Origin::NoDefault => true,
-        Origin::Declared { .. } | Origin::BuiltIn(_) | Origin::NoPrefix => false,
-    }
-}
-
 fn count_of(errors: &[ErrorCode], code: ErrorCode) -> usize {
     let mut count = 0usize;
     for error in errors {
@@ -56,15 +48,6 @@ fn count_of(errors: &[ErrorCode], code: ErrorCode) -> usize {
         }
     }
     count
-}
-
-fn write_error_count(out: &mut String, code: ErrorCode, count: usize) -> fmt::Result {
-    if count == 0 {
-        return Ok(());
-    }
-    let number = code.number();
-    let words = error_words(code);
-    writeln!(out, "    {number}, {words}: {count}")
 }
 
 impl Tally {
@@ -98,9 +81,13 @@ impl Tally {
         Ok(())
     }
 
+    // An attribute without a prefix is meant to have no namespace, so it is no stray.
     pub(crate) fn note_name(&mut self, line: usize, name: Resolved) -> Result<(), Stop> {
-        if is_stray(name.origin) {
-            self.strays.push(Stray { line, name })?;
+        match name.origin {
+            Origin::Undeclared { .. } | Origin::Unbound | Origin::NoDefault => {
+                self.strays.push(Stray { line, name })?;
+            }
+            Origin::Declared { .. } | Origin::BuiltIn(_) | Origin::NoPrefix => {}
         }
         self.note_error(name.error)
     }
@@ -127,7 +114,12 @@ impl Tally {
             out.write_str("    none\n")?;
         }
         for code in KINDS {
-            write_error_count(out, code, count_of(self.errors.as_slice(), code))?;
+            let count = count_of(self.errors.as_slice(), code);
+            if count > 0 {
+                let number = code.number();
+                let words = error_words(code);
+                writeln!(out, "    {number}, {words}: {count}")?;
+            }
         }
         Ok(())
     }

@@ -1,7 +1,5 @@
-// The plain words for errors and refusals. Their numbers come from the library.
+// The plain words for errors. Their numbers come from the library.
 use names::ErrorCode;
-use names::NameFault;
-use scopes::ScopeFault;
 
 pub(crate) fn error_words(code: ErrorCode) -> &'static str {
     match code {
@@ -19,22 +17,5 @@ pub(crate) fn error_words(code: ErrorCode) -> &'static str {
         ErrorCode::UnexpectedInMain => "out of place inside the root element",
         ErrorCode::UnexpectedInEnd => "out of place after the root element",
         ErrorCode::DuplicateAttribute => "attribute given twice",
-    }
-}
-
-pub(crate) fn name_fault_words(fault: NameFault) -> &'static str {
-    match fault {
-        NameFault::TooManyNames { .. } => "the document has too many different names",
-        NameFault::TooManyBytes { .. } => "the names of the document are too long together",
-    }
-}
-
-// The last two are mistakes of the caller, which reading a listing does not make.
-pub(crate) fn scope_fault_words(fault: ScopeFault) -> &'static str {
-    match fault {
-        ScopeFault::TooManyRows => "128 elements are open, and there can be no more",
-        ScopeFault::TooManyBindings => "there would be more than 256 bindings at once",
-        ScopeFault::Reserved => "a binding of xml or xmlns",
-        ScopeFault::NoOpenRow => "no element is open",
     }
 }

@@ -15,8 +15,6 @@ use crate::texts::name_text;
 use crate::texts::prefix_text;
 use crate::texts::text_of;
 use crate::words::error_words;
-use crate::words::name_fault_words;
-use crate::words::scope_fault_words;
 use listing::ExpectedDisplay;
 use listing::ListedKind;
 use listing::ListedTag;
@@ -48,25 +46,6 @@ pub(crate) fn write_head(out: &mut String, line: usize, tag: &ListedTag) -> fmt:
     writeln!(out, "line {line}: {kind} {name}")
 }
 
-fn write_verdict(
-    out: &mut String,
-    names: &NameTable,
-    declaration: &Declaration,
-    verdict: Verdict,
-) -> fmt::Result {
-    let prefix = PrefixText(prefix_text(names, declaration.prefix));
-    match verdict {
-        Verdict::Binds => write!(out, "binds {prefix}"),
-        Verdict::Undeclares => write!(out, "undeclares {prefix}"),
-        Verdict::NoEffect => write!(out, "no effect, {prefix} is built in"),
-        Verdict::Rejected(code) => {
-            let number = code.number();
-            let words = error_words(code);
-            write!(out, "error {number}: {words}")
-        }
-    }
-}
-
 pub(crate) fn write_declaration(
     out: &mut String,
     names: &NameTable,
@@ -75,9 +54,18 @@ pub(crate) fn write_declaration(
 ) -> fmt::Result {
     let name = name_text(names, declaration.name);
     let value = Shown(declaration.value.as_slice());
+    let prefix = PrefixText(prefix_text(names, declaration.prefix));
     write!(out, "  {name}=\"{value}\": ")?;
-    write_verdict(out, names, declaration, verdict)?;
-    out.write_str("\n")
+    match verdict {
+        Verdict::Binds => writeln!(out, "binds {prefix}"),
+        Verdict::Undeclares => writeln!(out, "undeclares {prefix}"),
+        Verdict::NoEffect => writeln!(out, "no effect, {prefix} is built in"),
+        Verdict::Rejected(code) => {
+            let number = code.number();
+            let words = error_words(code);
+            writeln!(out, "error {number}: {words}")
+        }
+    }
 }
 
 // Why a name is in no namespace. The other origins do not come here.
@@ -97,29 +85,13 @@ fn write_no_namespace(out: &mut String, names: &NameTable, name: Resolved) -> fm
         Some(code) => {
             let number = code.number();
             write!(out, "no namespace; error {number}: ")?;
-            write_reason(out, names, name)
+            write_reason(out, names, name)?;
+            out.write_str("\n")
         }
         None => {
             out.write_str("no namespace (")?;
             write_reason(out, names, name)?;
-            out.write_str(")")
-        }
-    }
-}
-
-fn write_origin(out: &mut String, names: &NameTable, name: Resolved) -> fmt::Result {
-    let prefix = PrefixText(prefix_text(names, name.name.prefix));
-    match name.origin {
-        Origin::Declared { ns, line } => {
-            let ns = Shown(text_of(names, ns));
-            write!(out, "\"{ns}\" ({prefix}, declared on line {line})")
-        }
-        Origin::BuiltIn(ns) => {
-            let ns = Shown(text_of(names, ns));
-            write!(out, "\"{ns}\" ({prefix}, built in)")
-        }
-        Origin::Undeclared { .. } | Origin::Unbound | Origin::NoDefault | Origin::NoPrefix => {
-            write_no_namespace(out, names, name)
+            out.write_str(")\n")
         }
     }
 }
@@ -127,9 +99,21 @@ fn write_origin(out: &mut String, names: &NameTable, name: Resolved) -> fmt::Res
 pub(crate) fn write_resolved(out: &mut String, names: &NameTable, name: Resolved) -> fmt::Result {
     let item = item_word(name.item);
     let shown = name_text(names, name.name);
+    let prefix = PrefixText(prefix_text(names, name.name.prefix));
     write!(out, "  {item} {shown}: ")?;
-    write_origin(out, names, name)?;
-    out.write_str("\n")
+    match name.origin {
+        Origin::Declared { ns, line } => {
+            let ns = Shown(text_of(names, ns));
+            writeln!(out, "\"{ns}\" ({prefix}, declared on line {line})")
+        }
+        Origin::BuiltIn(ns) => {
+            let ns = Shown(text_of(names, ns));
+            writeln!(out, "\"{ns}\" ({prefix}, built in)")
+        }
+        Origin::Undeclared { .. } | Origin::Unbound | Origin::NoDefault | Origin::NoPrefix => {
+            write_no_namespace(out, names, name)
+        }
+    }
 }
 
 pub(crate) fn write_closed(
@@ -148,20 +132,13 @@ pub(crate) fn write_closed(
     }
 }
 
+// A malformed line has nothing printed yet, and a refused tag its first line.
 pub(crate) fn write_stop(out: &mut String, line: usize, stop: Stop) -> fmt::Result {
     match stop {
         Stop::Memory => out.write_str("  out of memory"),
         Stop::Malformed(expected) => write!(out, "line {line}: malformed, expected {expected}"),
-        Stop::Names(fault) => {
-            let number = fault.refusal().number;
-            let words = name_fault_words(fault);
-            write!(out, "  refused, number {number}: {words}")
-        }
-        Stop::Scopes(fault) => {
-            let number = fault.number().unwrap_or(0);
-            let words = scope_fault_words(fault);
-            write!(out, "  refused, number {number}: {words}")
-        }
+        Stop::Refusal { number, words } => write!(out, "  refused, number {number}: {words}"),
+        Stop::Mistake(words) => write!(out, "  a mistake of this program: {words}"),
     }?;
     out.write_str("; reading ends here\n")
 }
