@@ -101,20 +101,6 @@ pub(crate) fn resolve(view: View<'_>, item: Item, name: QualName) -> Resolved {
 }
 
 // An attribute without a prefix has no namespace, and is not looked up.
-fn resolve_attribute(view: View<'_>, name: QualName) -> Resolved {
-    match name.prefix {
-        Some(_) => resolve(view, Item::Attribute, name),
-        None => {
-            Resolved {
-                item: Item::Attribute,
-                name,
-                origin: Origin::NoPrefix,
-                error: None,
-            }
-        }
-    }
-}
-
 pub(crate) fn resolve_attributes(
     heap: Global,
     view: View<'_>,
@@ -122,7 +108,20 @@ pub(crate) fn resolve_attributes(
 ) -> Result<Vec<Resolved>, Stop> {
     let mut all = Vec::new(heap);
     for name in attrs {
-        all.push(resolve_attribute(view, *name))?;
+        let item = Item::Attribute;
+        let name = *name;
+        let resolved = match name.prefix {
+            Some(_) => resolve(view, item, name),
+            None => {
+                Resolved {
+                    item,
+                    name,
+                    origin: Origin::NoPrefix,
+                    error: None,
+                }
+            }
+        };
+        all.push(resolved)?;
     }
     Ok(all)
 }

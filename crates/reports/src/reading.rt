@@ -7,7 +7,6 @@ use crate::element::innermost;
 use crate::element::resolve;
 use crate::element::resolve_attributes;
 use crate::stop::Stop;
-use crate::stop::StopFromAlloc;
 use crate::stop::StopFromFmt;
 use crate::stop::StopFromListing;
 use crate::stop::StopFromRefused;
@@ -49,11 +48,11 @@ enum Phase {
 // The table has a row for each open element.
 #[derive(Drop)]
 pub(crate) struct Reading {
-    names: NameTable,
+    pub(crate) names: NameTable,
     scopes: ScopeTable,
     open: Vec<OpenElement>,
     phase: Phase,
-    tally: Tally,
+    pub(crate) tally: Tally,
 }
 
 // The table after the tag. Only a start tag's bindings stay, but those of every tag have to find room.
@@ -82,14 +81,6 @@ fn after_end_of_file(phase: Phase, line: usize) -> Phase {
     match phase {
         Phase::Start | Phase::Main => Phase::End { line },
         Phase::End { .. } => phase,
-    }
-}
-
-// A null character ends the document only inside the root element.
-fn after_null(phase: Phase, line: usize) -> Phase {
-    match phase {
-        Phase::Main => Phase::End { line },
-        Phase::Start | Phase::End { .. } => phase,
     }
 }
 
@@ -145,7 +136,12 @@ impl Reading {
             ListedToken::Tag(tag) => self.take_tag(heap, line, tag, out)?,
             ListedToken::ShortTag => self.take_short(line, out)?,
             ListedToken::EndOfFile => self.phase = after_end_of_file(self.phase, line),
-            ListedToken::NullCharacter => self.phase = after_null(self.phase, line),
+            ListedToken::NullCharacter => {
+                // Inside the root element a null character ends the document.
+                if let Phase::Main = self.phase {
+                    self.phase = Phase::End { line };
+                }
+            }
             _ => {}
         }
         Ok(())
@@ -242,23 +238,16 @@ impl Reading {
                 }
                 Ok(())
             }
-            ListedKind::End => self.end_element(line, name, out),
-        }
-    }
-
-    fn end_element(&mut self, line: usize, name: QualName, out: &mut String) -> Result<(), Stop> {
-        match innermost(self.open.as_slice(), name.expanded()) {
-            Some(at) => self.close_from(at, line, out),
-            None => {
-                out.write_str("  closes nothing: no open element has this name\n")?;
-                Ok(())
+            ListedKind::End => {
+                let at = innermost(self.open.as_slice(), name.expanded());
+                self.close_from(at, line, out)
             }
         }
     }
 
     fn take_short(&mut self, line: usize, out: &mut String) -> Result<(), Stop> {
         writeln!(out, "line {line}: short")?;
-        let last = self.open.len().saturating_sub(1);
+        let last = self.open.len().checked_sub(1);
         match self.phase {
             Phase::Main => self.close_from(last, line, out),
             Phase::Start | Phase::End { .. } => {
@@ -269,24 +258,20 @@ impl Reading {
     }
 
     // Closes the open element at a place, and all inside it.
-    fn close_from(&mut self, at: usize, line: usize, out: &mut String) -> Result<(), Stop> {
-        let count = self.open.len();
-        let Some(element) = self.open.get(at).copied() else {
+    fn close_from(&mut self, at: Option<usize>, line: usize, out: &mut String) -> Result<(), Stop> {
+        let Some(place) = at else {
+            out.write_str("  closes nothing: no open element has this name\n")?;
             return Ok(());
         };
-        let inside = count.saturating_sub(at).saturating_sub(1);
-        write_closed(out, &self.names, element, inside)?;
-        self.open.truncate(at);
-        for _ in at..count {
+        let count = self.open.len();
+        write_closed(out, &self.names, self.open.as_slice(), place)?;
+        self.open.truncate(place);
+        for _ in place..count {
             self.scopes = self.scopes.close_row()?;
         }
         if self.open.is_empty() {
             self.phase = Phase::End { line };
         }
         Ok(())
-    }
-
-    pub(crate) fn write_summary(&self, out: &mut String) -> fmt::Result {
-        self.tally.write_summary(out, &self.names)
     }
 }

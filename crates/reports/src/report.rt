@@ -1,13 +1,13 @@
 // The report of the subcommand `scopes`: which namespace each name of a document has, and why.
 use crate::reading::Reading;
 use crate::stop::Stop;
-use crate::stop::StopFromAlloc;
 use crate::stop::StopFromFmt;
 use crate::write::write_stop;
 use listing::LinesIterator;
 use listing::lines_of;
 use std::alloc::AllocError;
 use std::alloc::Global;
+use std::fmt::Write;
 
 // `complete` is false where a line was malformed or a tag was refused, so that the rest was not read.
 #[derive(Drop)]
@@ -37,19 +37,19 @@ fn read_all(
     Ok(true)
 }
 
-fn render(heap: Global, listing: &[u8]) -> Result<Report, Stop> {
-    let mut reading = Reading::new(heap)?;
+fn render(heap: Global, reading: &mut Reading, listing: &[u8]) -> Result<Report, Stop> {
     let mut text = String::new(heap);
-    let complete = read_all(heap, &mut reading, listing, &mut text)?;
-    reading.write_summary(&mut text)?;
+    let complete = read_all(heap, reading, listing, &mut text)?;
+    reading.tally.write_summary(&mut text, &reading.names)?;
     if !complete {
-        text.push_str("  the listing was not read to its end\n")?;
+        text.write_str("  the listing was not read to its end\n")?;
     }
     Ok(Report { text, complete })
 }
 
 pub fn scopes_report(heap: Global, listing: &[u8]) -> Result<Report, AllocError> {
-    match render(heap, listing) {
+    let mut reading = Reading::new(heap)?;
+    match render(heap, &mut reading, listing) {
         Ok(report) => Ok(report),
         Err(_) => Err(AllocError),
     }

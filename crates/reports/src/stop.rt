@@ -3,7 +3,6 @@ use listing::Expected;
 use listing::ListingFault;
 use names::NameFault;
 use scopes::ScopeFault;
-use std::alloc::AllocError;
 use std::alloc::Refused;
 use std::fmt;
 
@@ -15,12 +14,6 @@ pub(crate) enum Stop {
     Refusal { number: u8, words: &'static str },
     // A call that a reading never makes was refused.
     Mistake(&'static str),
-}
-
-pub(crate) impl From<AllocError> for Stop as StopFromAlloc {
-    fn from(_e: AllocError) -> Stop {
-        Stop::Memory
-    }
 }
 
 pub(crate) impl<T: Drop> From<Refused<T>> for Stop as StopFromRefused {

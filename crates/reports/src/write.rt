@@ -116,19 +116,26 @@ pub(crate) fn write_resolved(out: &mut String, names: &NameTable, name: Resolved
     }
 }
 
+// The element at a place is closed, with those after it.
 pub(crate) fn write_closed(
     out: &mut String,
     names: &NameTable,
-    element: OpenElement,
-    inside: usize,
+    open: &[OpenElement],
+    place: usize,
 ) -> fmt::Result {
+    let Some(element) = open.get(place) else {
+        return Ok(());
+    };
     let name = name_text(names, element.name);
     let line = element.line;
     write!(out, "  closes {name} (line {line})")?;
-    match inside {
-        0 => out.write_str("\n"),
-        1 => out.write_str(" and 1 element inside it\n"),
-        _ => writeln!(out, " and {inside} elements inside it"),
+    match open.len().saturating_sub(place) {
+        0 | 1 => out.write_str("\n"),
+        2 => out.write_str(" and 1 element inside it\n"),
+        all => {
+            let inside = all.saturating_sub(1);
+            writeln!(out, " and {inside} elements inside it")
+        }
     }
 }
 
