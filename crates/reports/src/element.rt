@@ -30,9 +30,11 @@ pub(crate) fn innermost(open: &[OpenElement], name: ExpandedName) -> Option<usiz
     found
 }
 
+// What has the name.
 #[derive(Clone, Copy)]
 pub(crate) enum Item {
     Element,
+    EndTag,
     Attribute,
 }
 

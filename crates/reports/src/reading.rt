@@ -183,12 +183,16 @@ impl Reading {
             line,
         };
         let attrs = resolve_attributes(heap, view, tag.attrs.as_slice())?;
-        let element = resolve(view, Item::Element, tag.name);
+        let item = match tag.kind {
+            ListedKind::Start | ListedKind::Empty => Item::Element,
+            ListedKind::End => Item::EndTag,
+        };
+        let own = resolve(view, item, tag.name);
         self.print_declarations(&tag, &weighed, out)?;
         self.print_names(line, attrs.as_slice(), out)?;
-        self.print_names(line, &[element], out)?;
+        self.print_names(line, &[own], out)?;
         self.scopes = scopes;
-        self.finish_tag(line, tag.kind, element.name, out)
+        self.finish_tag(line, tag.kind, own.name, out)
     }
 
     fn print_declarations(

@@ -36,6 +36,7 @@ fn kind_word(kind: ListedKind) -> &'static str {
 pub(crate) fn item_word(item: Item) -> &'static str {
     match item {
         Item::Element => "element",
+        Item::EndTag => "end tag",
         Item::Attribute => "attribute",
     }
 }
