@@ -2,10 +2,12 @@
 use reports::Command;
 use reports::HELP;
 use reports::Input;
+use reports::InputDisplay;
 use reports::UsageDisplay;
 use reports::parse;
 use reports::scopes_report;
 use std::env;
+use std::fmt::Display;
 use std::fs;
 use std::io;
 use std::io::Read;
@@ -15,7 +17,7 @@ use std::io::Read;
 struct Failed;
 
 // Where standard error fails too, there is nowhere left to say so.
-fn say_fault(rt: &LibcRuntime, what: &str, name: &str, fault: io::Error) -> Failed {
+fn say_fault(rt: &LibcRuntime, what: &str, name: impl Display + Drop, fault: io::Error) -> Failed {
     let _ = eprintln!(
         rt,
         "jobxml: cannot {what} {name}: {fault}; see jobxml --help"
@@ -37,13 +39,13 @@ fn read_standard(rt: &LibcRuntime) -> io::Result<Vec<u8>> {
 }
 
 fn read_input(rt: &LibcRuntime, input: Input<'_>) -> Result<Vec<u8>, Failed> {
-    let (read, name) = match input {
-        Input::Standard => (read_standard(rt), "standard input"),
-        Input::File(file) => (fs::read(rt, file), file),
+    let read = match input {
+        Input::Standard => read_standard(rt),
+        Input::File(file) => fs::read(rt, file),
     };
     match read {
         Ok(bytes) => Ok(bytes),
-        Err(e) => Err(say_fault(rt, "read", name, e)),
+        Err(e) => Err(say_fault(rt, "read", input, e)),
     }
 }
 

@@ -4,33 +4,48 @@ use listing::ShownDisplay;
 use std::fmt;
 
 pub const HELP: &str = "\
-jobxml reads XML job descriptions, given as token listings with one token a line.
+jobxml reads XML job descriptions, given as token listings: plain text with one
+token a line, as docs/LISTING.md describes it.
 
 usage:
-  jobxml scopes [FILE]   for each tag, which namespace its names have, and why
-  jobxml --help          this text
+  jobxml scopes [FILE]   tells the namespace of every name, and where it comes from
+  jobxml --help          prints this text
 
-Without FILE, or with - for it, the listing is read from standard input.
+Without FILE, or with - in its place, the listing is read from standard input.
 
-scopes prints every tag with its line: what becomes of each namespace
-declaration, and for each name its namespace and the line that declared it, or
-why it has none. End tags say which element they close. A summary ends the
-report: the names that landed in no namespace, and the errors by their numbers.
+scopes prints each tag with its line: what becomes of each namespace
+declaration, and for each name its namespace and the line that declares it, or
+why it has none. An end tag tells what it closes. The summary at the end lists
+the names that landed in no namespace, and counts the errors by their numbers.
 
-scopes reports the errors of declarations and prefixes alone. It does not
-report mismatched end tags, duplicate attributes or tokens out of place.
+It reports the errors of declarations and prefixes, numbers 1 to 4 and 6. It
+does not report mismatched end tags, duplicate attributes or tokens out of
+place.
 
-Reading ends at a malformed line, and at a tag that passes a limit (128 open
-elements, 256 bindings, 512 names). What was read before is printed, and the
-status is 1.
+Reading ends at a malformed line, and at a tag that would pass a limit: 128 open
+elements, 256 bindings at once, 512 different names or 16384 bytes of them. What
+was read before that is printed.
 
-The status is 0 where the listing was read to its end, and else 1.
+The status is 0 if the listing was read to its end, with or without errors in
+it, and otherwise 1.
 ";
 
 #[derive(Clone, Copy)]
 pub enum Input<'a> {
     Standard,
     File(&'a str),
+}
+
+pub impl fmt::Display for Input<'_> as InputDisplay {
+    fn fmt<W: fmt::Write>(&self, f: &mut fmt::Formatter<W>) -> fmt::Result {
+        match *self {
+            Input::Standard => f.write_str("standard input"),
+            Input::File(file) => {
+                let file = Shown(file.as_bytes());
+                write!(f, "\"{file}\"")
+            }
+        }
+    }
 }
 
 #[derive(Clone, Copy)]

@@ -13,6 +13,7 @@ mod write;
 pub use command::Command;
 pub use command::HELP;
 pub use command::Input;
+pub use command::InputDisplay;
 pub use command::Usage;
 pub use command::UsageDisplay;
 pub use command::parse;

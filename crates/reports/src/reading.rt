@@ -93,6 +93,7 @@ fn is_bound(phase: Phase, kind: ListedKind) -> bool {
     }
 }
 
+// Says that something does not come about, and why.
 fn write_phase(out: &mut String, what: &str, phase: Phase) -> fmt::Result {
     match phase {
         Phase::Start => writeln!(out, "  {what}: the root element has not begun"),
@@ -165,7 +166,8 @@ impl Reading {
         }
     }
 
-    // Everything that can refuse the tag comes before the first change.
+    // Everything that can refuse the tag comes before anything changes, but for the name table, which keeps what was
+    // entered.
     fn bind_tag(
         &mut self,
         heap: Global,
@@ -261,7 +263,7 @@ impl Reading {
         }
     }
 
-    // Closes the open element at a place, and all inside it.
+    // Closes the open element at a place, and all inside it. There is no place where no element was found.
     fn close_from(&mut self, at: Option<usize>, line: usize, out: &mut String) -> Result<(), Stop> {
         let Some(place) = at else {
             out.write_str("  closes nothing: no open element has this name\n")?;

@@ -68,8 +68,9 @@ impl Tally {
     pub(crate) fn count_bound(&mut self, kind: ListedKind) {
         self.bound = self.bound.saturating_add(1);
         match kind {
-            ListedKind::Start | ListedKind::Empty => self.elements = self.elements
-                .saturating_add(1),
+            ListedKind::Start | ListedKind::Empty => {
+                self.elements = self.elements.saturating_add(1);
+            }
             ListedKind::End => {}
         }
     }

@@ -1,6 +1,6 @@
 // Tests of what the arguments ask for.
 use reports::Command;
-use reports::Input;
+use reports::InputDisplay;
 use reports::UsageDisplay;
 use reports::parse;
 use std::alloc::AllocError;
@@ -15,8 +15,7 @@ fn asked(heap: Global, line: &str) -> Result<String, AllocError> {
     }
     match parse(words.as_slice()) {
         Ok(Command::Help) => String::from_str(heap, "help"),
-        Ok(Command::Scopes(Input::Standard)) => String::from_str(heap, "scopes of standard input"),
-        Ok(Command::Scopes(Input::File(file))) => format!(heap, "scopes of {file}"),
+        Ok(Command::Scopes(input)) => format!(heap, "scopes of {input}"),
         Err(usage) => format!(heap, "{usage}"),
     }
 }
@@ -43,7 +42,7 @@ fn known_words(rt: LibcRuntime) -> Result<(), Fail> {
             ("scopes a --help", "help"),
             ("scopes", "scopes of standard input"),
             ("scopes -", "scopes of standard input"),
-            ("scopes a.tokens", "scopes of a.tokens"),
+            ("scopes a.tokens", "scopes of \"a.tokens\""),
         ],
     )
 }
