@@ -4,7 +4,7 @@ use std::alloc::Global;
 use std::test::*;
 
 // The lines before the summary. The listing is read to its end.
-pub fn check_tags(heap: Global, listing: &[u8], wanted: &str) -> Result<(), Fail> {
+pub(crate) fn check_tags(heap: Global, listing: &[u8], wanted: &str) -> Result<(), Fail> {
     let report = scopes_report(heap, listing)?;
     let (tags, _) = report
         .text
@@ -16,7 +16,7 @@ pub fn check_tags(heap: Global, listing: &[u8], wanted: &str) -> Result<(), Fail
 }
 
 // The summary without its first line. The listing is read to its end.
-pub fn check_summary(heap: Global, listing: &[u8], wanted: &str) -> Result<(), Fail> {
+pub(crate) fn check_summary(heap: Global, listing: &[u8], wanted: &str) -> Result<(), Fail> {
     let report = scopes_report(heap, listing)?;
     let (_, summary) = report
         .text
@@ -28,14 +28,14 @@ pub fn check_summary(heap: Global, listing: &[u8], wanted: &str) -> Result<(), F
 }
 
 // The whole of a report that stops before the end of the listing.
-pub fn check_stopped(heap: Global, listing: &[u8], wanted: &str) -> Result<(), Fail> {
+pub(crate) fn check_stopped(heap: Global, listing: &[u8], wanted: &str) -> Result<(), Fail> {
     let report = scopes_report(heap, listing)?;
     check_eq(report.text.as_str(), wanted)?;
     check(!report.complete)
 }
 
 // A report too long to be written out has this part.
-pub fn check_part(heap: Global, listing: &[u8], part: &str, complete: bool) -> Result<(), Fail> {
+pub(crate) fn check_part(heap: Global, listing: &[u8], part: &str, complete: bool) -> Result<(), Fail> {
     let report = scopes_report(heap, listing)?;
     check(report.text.as_str().contains(part)).note(part)?;
     check_eq(report.complete, complete)
