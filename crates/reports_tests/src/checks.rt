@@ -35,7 +35,12 @@ pub(crate) fn check_stopped(heap: Global, listing: &[u8], wanted: &str) -> Resul
 }
 
 // A report too long to be written out has this part.
-pub(crate) fn check_part(heap: Global, listing: &[u8], part: &str, complete: bool) -> Result<(), Fail> {
+pub(crate) fn check_part(
+    heap: Global,
+    listing: &[u8],
+    part: &str,
+    complete: bool,
+) -> Result<(), Fail> {
     let report = scopes_report(heap, listing)?;
     check(report.text.as_str().contains(part)).note(part)?;
     check_eq(report.complete, complete)
