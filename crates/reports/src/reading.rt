@@ -27,15 +27,13 @@ use listing::read_token;
 use names::NameTable;
 use names::QualName;
 use scopes::Binding;
+use scopes::MOST_BINDINGS;
 use scopes::ScopeFault;
 use scopes::ScopeTable;
 use std::alloc::AllocError;
 use std::alloc::Global;
 use std::fmt;
 use std::fmt::Write;
-
-// The most bindings at once, the built-in ones and those of the tag counted.
-const MOST_BINDINGS: usize = 256;
 
 // Before the root element, inside it, and after the document has ended on a line.
 #[derive(Clone, Copy)]

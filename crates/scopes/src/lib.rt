@@ -15,5 +15,6 @@ pub use declarations::Verdict;
 pub use declarations::role_of;
 pub use declarations::weigh;
 pub use faults::ScopeFault;
+pub use rows::MOST_BINDINGS;
 pub use scope_table::ScopeTable;
 pub use serializer_scopes::SerializerScopes;

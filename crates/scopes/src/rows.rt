@@ -11,7 +11,7 @@ mod methods;
 pub(crate) use methods::find_in;
 
 // How many bindings a table takes, and how many rows.
-pub(crate) const MOST_BINDINGS: usize = 256;
+pub const MOST_BINDINGS: usize = 256;
 
 pub(crate) const MOST_ROWS: usize = 128;
 
