@@ -1,6 +1,6 @@
 -- What Namespaces in XML 1.0 says of the prefixes in scope, as a relation. Assumes nothing.
--- The elements around a place are given innermost first, each by the declarations on its start tag, in their order there.
--- An element is named by how many others are open around it.
+-- The elements around a place are given innermost first, each by the declarations on its start tag, in their order there;
+-- a tag that is being read stands at the head. An element is named by how many others are open around it.
 use mathlib.Core.Path.{_≡_}
 use mathlib.Core.Bool.{false, cond}
 use mathlib.Core.List.{List, [], _∷_}

@@ -7,7 +7,7 @@ ghost use Rattle.std.specs.Options.{mapped};
 ghost use Rattle.std.specs.Vec.{made};
 ghost use Rattle.std.specs.declared.option.Option.the-variants.{Some, None};
 ghost use Rattle.names.specs.BuiltIn.{builtIn};
-ghost use Rattle.names.specs.Held as store;
+ghost use Rattle.names.specs.Held as holding;
 ghost use Rattle.names.specs.Names.{numbered};
 ghost use Rattle.names.specs.Table.{texts};
 ghost use Rattle.names.specs.Texts.{begins, seek, textAt, fits, entered, after, Number-of, Keeps-numbers};
@@ -24,7 +24,7 @@ use std::alloc::Global;
 
 // The texts that every table begins with, in the order of their numbers.
 fn built_in_names(heap: Global) -> Result<TextStore, AllocError>
-    ensures { λ r. ⌜ made r (λ s. store.held s ≡ builtIn) ⌝ }
+    ensures { λ r. ⌜ made r (λ s. holding.held s ≡ builtIn) ⌝ }
 {
     let mut store = TextStore::new(heap)?;
     store.push(b"");
