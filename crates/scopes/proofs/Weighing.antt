@@ -17,7 +17,7 @@ use Rattle.names.specs.BuiltIn.{xmlUri, xmlnsUri}
 use Rattle.scopes.specs.declared.bindings.Binding.{Binding}
 use Rattle.scopes.specs.declared.declarations.Verdict.{Verdict}
 use Rattle.scopes.specs.declared.declarations.Verdict.the-variants.{NoEffect, Rejected}
-use Rattle.scopes.specs.Declarations.{bindsOrUndeclares, weighed, takesEffect, Lawful, New, Accepts-lawful}
+use Rattle.scopes.specs.Declarations.{bindsOrUndeclares, weighed, takesEffect, Unreserved, New, Accepts-unreserved}
 use Rattle.scopes.specs.Prefixes.{same, named}
 use Rattle.scopes.specs.Rows.{binds, inRow}
 use Rattle.scopes.proofs.Comparing.{same-decides}
@@ -52,7 +52,7 @@ effect : (v : List ℕ) → takesEffect (bindsOrUndeclares v) ≡ true
 effect [] = refl
 effect (c ∷ cs) = refl
 
--- a verdict without effect, where no lawful declaration is
+-- a verdict without effect, where the declaration cannot take effect
 rejects : {P : Type 0} (r : Verdict) → takesEffect r ≡ false → (P → ⊥) → Decides (takesEffect r) P
 rejects r e no-way = (λ h. absurd (both-ways _ e h), λ x. absurd (no-way x))
 
@@ -83,10 +83,10 @@ module _ (tag : List Binding) (p : Option Name) (v : List ℕ) where
           pub at-end : binds tag p ≡ false → weighed tag p v ≡ bindsOrUndeclares v
           at-end f = cond-false _ _ _ a ∙ cond-false _ _ _ b ∙ cond-false _ _ _ d ∙ cond-false _ _ _ e ∙ cond-false _ _ _ f
 
-  by-verdict : (r : Verdict) → weighed tag p v ≡ r → Accepts-lawful tag p v r → Accepts-lawful tag p v (weighed tag p v)
-  by-verdict r e h = subst (Accepts-lawful tag p v) (sym e) h
+  by-verdict : (r : Verdict) → weighed tag p v ≡ r → Accepts-unreserved tag p v r → Accepts-unreserved tag p v (weighed tag p v)
+  by-verdict r e h = subst (Accepts-unreserved tag p v) (sym e) h
 
-  fine : sameBytes v xmlnsUri ≡ false → named 1 p ≡ false → named 2 p ≡ false → sameBytes v xmlUri ≡ false → Lawful p v
+  fine : sameBytes v xmlnsUri ≡ false → named 1 p ≡ false → named 2 p ≡ false → sameBytes v xmlUri ≡ false → Unreserved p v
   fine a b d e =
       record {
         prefix = or-from _ _ b d;
@@ -94,8 +94,8 @@ module _ (tag : List Binding) (p : Option Name) (v : List ℕ) where
         not-xmlns = λ q. both-ways _ a (sameBytes-decides v xmlnsUri .1 q);
       }
 
-  -- a declaration takes effect exactly if it is lawful and new on its tag
-  pub accepts : Accepts-lawful tag p v (weighed tag p v)
+  -- a declaration takes effect exactly if it touches nothing reserved and is new on its tag
+  pub accepts : Accepts-unreserved tag p v (weighed tag p v)
   accepts =
       elim (cases-bool (sameBytes v xmlnsUri)) [
         | inl a ↦ by-verdict _ (at-xmlns-uri a) (rejects (Rejected XmlnsUriDeclared) refl (λ x. x .0 .not-xmlns (sameBytes-decides v xmlnsUri .0 a)))
@@ -125,7 +125,7 @@ module _ (tag : List Binding) (p : Option Name) (v : List ℕ) where
   -- what a call of `weigh` owes, from its verdict
   pub record Weighed (r : Verdict) : Type 0 where
     pub value : r ≡ weighed tag p v
-    pub lawful : Accepts-lawful tag p v r
+    pub unreserved : Accepts-unreserved tag p v r
 
   pub weighs : (r : Verdict) → weighed tag p v ≡ r → Weighed r
-  weighs r e = record { value = sym e; lawful = subst (Accepts-lawful tag p v) e accepts }
+  weighs r e = record { value = sym e; unreserved = subst (Accepts-unreserved tag p v) e accepts }

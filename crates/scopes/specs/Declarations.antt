@@ -58,8 +58,9 @@ takesEffect Undeclares = true
 takesEffect NoEffect = false
 takesEffect (Rejected e) = false
 
--- what Namespaces in XML 1.0 allows a declaration: neither reserved prefix, neither reserved namespace
-pub record Lawful (p : Option Name) (v : List ℕ) : Type 0 where
+-- what Namespaces in XML 1.0 asks of a declaration for the sake of `xml` and `xmlns`: neither prefix, neither namespace;
+-- an empty value for a prefix, which that document forbids as well, passes here and undeclares the prefix
+pub record Unreserved (p : Option Name) (v : List ℕ) : Type 0 where
   pub prefix : reserved p ≡ false
   pub not-xml : v ≡ xmlUri → ⊥
   pub not-xmlns : v ≡ xmlnsUri → ⊥
@@ -68,6 +69,6 @@ pub record Lawful (p : Option Name) (v : List ℕ) : Type 0 where
 abbrev pub New : List Binding → Option Name → Type 0
 New tag p = (i : ℕ) → i < length tag → getD tag i (record { prefix = None; ns = None }) .prefix ≡ p → ⊥
 
--- a declaration takes effect exactly if it is lawful and the first of its prefix on the tag
-abbrev pub Accepts-lawful : List Binding → Option Name → List ℕ → Verdict → Type 0
-Accepts-lawful tag p v r = Decides (takesEffect r) (Lawful p v × New tag p)
+-- a declaration takes effect exactly if it touches nothing reserved and is the first of its prefix on the tag
+abbrev pub Accepts-unreserved : List Binding → Option Name → List ℕ → Verdict → Type 0
+Accepts-unreserved tag p v r = Decides (takesEffect r) (Unreserved p v × New tag p)

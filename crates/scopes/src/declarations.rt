@@ -2,7 +2,7 @@
 ghost use mathlib.Core.Path.{_≡_};
 ghost use Rattle.std.specs.shelf.Text.{sameBytes};
 ghost use Rattle.names.specs.BuiltIn.{xmlUri, xmlnsUri};
-ghost use Rattle.scopes.specs.Declarations.{roleOf, verdictError, weighed, Accepts-lawful};
+ghost use Rattle.scopes.specs.Declarations.{roleOf, verdictError, weighed, Accepts-unreserved};
 ghost use Rattle.scopes.specs.Rows.{binds};
 use crate::bindings::Binding;
 use crate::prefixes::is_named;
@@ -108,7 +108,7 @@ fn verdict_of(tag: &[Binding], prefix: Option<Name>, value: &[u8]) -> Verdict
 // it.
 pub fn weigh(tag: &[Binding], prefix: Option<Name>, value: &[u8]) -> Verdict
     ensures value { λ r. ⌜ r ≡ weighed (now (tag .entry)) prefix (now (value .entry)) ⌝ }
-    ensures lawful { λ r. ⌜ Accepts-lawful (now (tag .entry)) prefix (now (value .entry)) r ⌝ }
+    ensures unreserved { λ r. ⌜ Accepts-unreserved (now (tag .entry)) prefix (now (value .entry)) r ⌝ }
 {
     verdict_of(tag, prefix, value)
 }

@@ -1,6 +1,9 @@
 // Names, their limits, and what is made of them.
+ghost use mathlib.Core.Path.{_≡_};
+ghost use Rattle.std.specs.Orderings.{Decides};
 use crate::failing::fail;
 use names::ErrorCode;
+use names::ExpandedName;
 use names::ExpandedNamePartialEq;
 use names::Layer;
 use names::Name;
@@ -122,13 +125,26 @@ fn name(prefix: Option<Name>, ns: u16) -> QualName {
     }
 }
 
+// What a caller learns from `==`.
+fn same_qualified(a: QualName, b: QualName) -> bool
+    ensures { λ r. ⌜ Decides r (a ≡ b) ⌝ }
+{
+    a == b
+}
+
+fn same_expanded(a: ExpandedName, b: ExpandedName) -> bool
+    ensures { λ r. ⌜ Decides r (a ≡ b) ⌝ }
+{
+    a == b
+}
+
 #[test]
 fn an_empty_prefix_is_not_an_absent_one() -> Result<(), Fail> {
     let absent = name(None, 4);
     let empty = name(Some(Name::EMPTY), 4);
-    check(absent != empty)?;
-    check(absent.expanded() == empty.expanded())?;
-    check(absent.expanded() != name(None, 5).expanded())
+    check(!same_qualified(absent, empty))?;
+    check(same_expanded(absent.expanded(), empty.expanded()))?;
+    check(!same_expanded(absent.expanded(), name(None, 5).expanded()))
 }
 
 #[test]

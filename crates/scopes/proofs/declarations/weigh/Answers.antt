@@ -5,4 +5,4 @@ use Rattle.scopes.proofs.declarations.weigh.Needs as need
 pub returns : need.returns
 returns c =
     let w = weighs (c .args .tag .now) (c .args .prefix) (c .args .value .now) (c .verdict-of .result) (sym (c .verdict-of .ensures)) in
-    record { value = w .value; lawful = w .lawful }
+    record { value = w .value; unreserved = w .unreserved }
