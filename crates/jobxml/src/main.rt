@@ -1,4 +1,6 @@
 // The program: what the arguments ask for goes to standard output, and what went wrong to standard error.
+#![tactic(auto)]
+
 use reports::{Command, HELP, Input, parse, scopes_report};
 use std::fmt::Display;
 use std::io::Read;

@@ -1,4 +1,6 @@
 // Reads a token listing: plain text with one XML token a line, written by people.
+#![tactic(auto)]
+
 mod fault;
 mod lines;
 mod pieces;

@@ -1,4 +1,6 @@
 // Names as numbers, what is made of them, and the codes by which later layers speak of errors and refusals.
+#![tactic(auto)]
+
 mod errors;
 mod qualified;
 mod refusals;

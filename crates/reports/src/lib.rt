@@ -1,4 +1,6 @@
 // What the subcommands of the program print, and what its arguments ask for.
+#![tactic(auto)]
+
 mod command;
 mod element;
 mod reading;

@@ -1,4 +1,6 @@
 // Tests of the crate `reports`, which stand apart so that its own check stays short.
+#![tactic(auto)]
+
 #[cfg(test)]
 mod checks;
 #[cfg(test)]

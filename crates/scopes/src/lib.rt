@@ -1,4 +1,6 @@
 // Which namespace a prefix stands for: declarations, rows of bindings for the open elements, and the look-up.
+#![tactic(auto)]
+
 mod bindings;
 mod declarations;
 mod faults;

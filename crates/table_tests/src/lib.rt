@@ -1,4 +1,6 @@
 // Tests of names and scopes: the limits, reached and passed, and the rules by example.
+#![tactic(auto)]
+
 #[cfg(test)]
 mod declaration_tests;
 #[cfg(test)]

@@ -1,4 +1,6 @@
 // Reads tokens from a tape: 32-bit words that say what there is, and one text that holds all the bytes.
+#![tactic(auto)]
+
 mod cursor;
 mod entering;
 mod faults;

@@ -6,13 +6,13 @@ use Rattle.listing.proofs.lines.next_line.Goals as goal
 pub returns-then-end-text : goal.returns-then-end-text
 returns-then-end-text c =
     let text = c.args.text.now in
-    let end = c.line-end-end.result in
-    record { splits = (end, c.line-end-end.ensures, search rules, take_rest text (end + 1)); shorter = search rules }
+    let end = c.line_end-end.result in
+    record { splits = (end, c.line_end-end.ensures, search rules, take_rest text (end + 1)); shorter = search rules }
 
 -- past the end of the text nothing is left
 pub returns-else-end-text : goal.returns-else-end-text
 returns-else-end-text c =
     let text = c.args.text.now in
-    let end = c.line-end-end.result in
+    let end = c.line_end-end.result in
     let nothing = drop_all end text (omega arith) ∙ sym (drop_all (end + 1) text (omega arith)) in
-    record { splits = (end, c.line-end-end.ensures, search rules, take_rest text end ∙ nothing); shorter = search rules }
+    record { splits = (end, c.line_end-end.ensures, search rules, take_rest text end ∙ nothing); shorter = search rules }

@@ -4,14 +4,14 @@ use Rattle.std.proofs.lemmas.List.Sums.{prefix_len-drop_yes, prefix_len-drop_no,
 use Rattle.listing.specs.Skips.{is_blank}
 use Rattle.listing.proofs.read.blank_count.Goals as goal
 
-pub returns-then-not-is-blank : goal.returns-then-not-is-blank
-returns-then-not-is-blank c =
-    let none = prefix_len-drop_no is_blank c.args.line.now c.loop-i.i 0 (omega arith) (sym c.is-blank.ensures ∙ c.if-not-is-blank.true) in
+pub returns-then-not-is_blank : goal.returns-then-not-is_blank
+returns-then-not-is_blank c =
+    let none = prefix_len-drop_no is_blank c.args.line.now c.loop-i.i 0 (omega arith) (sym c.is_blank.ensures ∙ c.if-not-is_blank.true) in
     record { value = omega (arith, none); within = omega arith }
 
 pub loop-i-preserved : goal.loop-i-preserved
 loop-i-preserved c =
-    let one = prefix_len-drop_yes is_blank c.args.line.now c.loop-i.i 0 (omega arith) (sym c.is-blank.ensures ∙ c.if-not-is-blank.false) in
+    let one = prefix_len-drop_yes is_blank c.args.line.now c.loop-i.i 0 (omega arith) (sym c.is_blank.ensures ∙ c.if-not-is_blank.false) in
     omega (arith, one)
 
 pub returns : goal.returns

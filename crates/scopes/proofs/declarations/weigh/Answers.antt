@@ -4,5 +4,5 @@ use Rattle.scopes.proofs.declarations.weigh.Goals as goal
 
 pub returns : goal.returns
 returns c =
-    let w = weighs c.args.tag.now c.args.prefix c.args.value.now c.verdict-of.result (sym c.verdict-of.ensures) in
+    let w = weighs c.args.tag.now c.args.prefix c.args.value.now c.verdict_of.result (sym c.verdict_of.ensures) in
     record { value = w.value; unreserved = w.unreserved }

@@ -14,15 +14,15 @@ loop-words-preserved c =
     let ws = c.loop-words.words.now in
     let at = c.loop-words.at in
     let names = texts c.loop-words.names in
-    let a = c.in-ok-records.field-0 in
+    let a = c.in_ok-records.field-0 in
     let records = c.loop-words.records in
     let some : 3 ≤ length ws = omega (arith, ltb-false) in
     let left = take_rest ws 3 in
     let room : c.loop-words.count < length records = omega (arith, ltb-false) in
-    let next : at + (c.len-of.result + c.len-of-in-len3-up.result + c.len-of-in-len3-up-2.result) ≡ at + payload_of (get_or ws 0 0) + payload_of (get_or ws 1 0) + payload_of (get_or ws 2 0) = omega arith in (
+    let next : at + (c.len_of.result + c.len_of-in-len3-up.result + c.len_of-in-len3-up-2.result) ≡ at + payload_of (get_or ws 0 0) + payload_of (get_or ws 1 0) + payload_of (get_or ws 2 0) = omega arith in (
       omega (arith, ap total left, total_three ws),
       omega (arith, ap length left, length-drop 3 ws),
-      (λ i. attributes_entered (take_more_set records c.loop-words.count a room i) (texts c.enter-attribute.new.names) c.args.text.now (next i) (left i))
-          ∙ sym (one_more (take c.loop-words.count records) names c.args.text.now at ws (texts c.enter-attribute.new.names) a some c.in-ok-records.ensures)
+      (λ i. attributes_entered (take_more_set records c.loop-words.count a room i) (texts c.enter_attribute.new.names) c.args.text.now (next i) (left i))
+          ∙ sym (one_more (take c.loop-words.count records) names c.args.text.now at ws (texts c.enter_attribute.new.names) a some c.in_ok-records.ensures)
           ∙ c.loop-words.invariant.2,
     )

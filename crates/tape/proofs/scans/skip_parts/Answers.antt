@@ -5,12 +5,12 @@ use Rattle.tape.proofs.scans.skip_parts.Goals as goal
 
 pub returns-in-Comment : goal.returns-in-Comment
 returns-in-Comment c =
-    sym (ap (λ ss. after ss c.args.words.now) (one_text c.args.head c.in-Comment.is) ∙ c.skip-slots.ensures [] ∙ onward_none c.skip-slots.result)
+    sym (ap (λ ss. after ss c.args.words.now) (one_text c.args.head c.in-Comment.is) ∙ c.skip_slots.ensures [] ∙ onward_none c.skip_slots.result)
 
 pub returns-in-Instruction : goal.returns-in-Instruction
 returns-in-Instruction c =
-    sym (ap (λ h. after (slots_of h) c.args.words.now) c.in-Instruction.is ∙ c.skip-slots-in-Instruction.ensures [] ∙ onward_none c.skip-slots-in-Instruction.result)
+    sym (ap (λ h. after (slots_of h) c.args.words.now) c.in-Instruction.is ∙ c.skip_slots-in-Instruction.ensures [] ∙ onward_none c.skip_slots-in-Instruction.result)
 
 pub returns-in-Doctype : goal.returns-in-Doctype
 returns-in-Doctype c =
-    sym (ap (λ h. after (slots_of h) c.args.words.now) c.in-Doctype.is ∙ c.skip-slots-in-Doctype.ensures [] ∙ onward_none c.skip-slots-in-Doctype.result)
+    sym (ap (λ h. after (slots_of h) c.args.words.now) c.in-Doctype.is ∙ c.skip_slots-in-Doctype.ensures [] ∙ onward_none c.skip_slots-in-Doctype.result)

@@ -15,14 +15,14 @@ use Rattle.std.proofs.lemmas.Bool.Decides.{Decides-eqb}
 here : (c : goal.After-deref) → Front c.loop-i.start (get_or c.deref-end-items.result.now c.loop-i.i 0) (drop (c.loop-i.i + 1) (vec_items c.args.self.now.ends)) (vec_len c.args.self.now.bytes)
 here c = front_at _ _ _ _ _ c.deref-end-items.ensures.value c.loop-i-test.true c.loop-i.invariant.0
 
-pub slice-bounds-eq-count : goal.slice-bounds-eq-count
-slice-bounds-eq-count c = (here c).low
+pub slice_bounds-eq-count : goal.slice_bounds-eq-count
+slice_bounds-eq-count c = (here c).low
 
-pub slice-bounds-eq-start : goal.slice-bounds-eq-start
-slice-bounds-eq-start c = (here c).low
+pub slice_bounds-eq-start : goal.slice_bounds-eq-start
+slice_bounds-eq-start c = (here c).low
 
-pub slice-bounds-eq-end : goal.slice-bounds-eq-end
-slice-bounds-eq-end c = let h = (here c).high in omega (arith, c.deref.ensures.len)
+pub slice_bounds-eq-end : goal.slice_bounds-eq-end
+slice_bounds-eq-end c = let h = (here c).high in omega (arith, c.deref.ensures.len)
 
 -- the answer of the search is the number of the text
 answer : (s : TextStore) (t : List ℕ) (r : Option Name) → r ≡ seek 0 (held s) t → NumberOf (held s) t r

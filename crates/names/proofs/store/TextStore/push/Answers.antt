@@ -16,24 +16,26 @@ pushed s t n ends bytes len e b =
     ∙ ap (λ m. cuts 0 (vec_items s.ends ++ (m + length t) ∷ []) (vec_items s.bytes ++ t)) len
     ∙ cuts_push 0 (vec_items s.ends) (vec_items s.bytes) t (vec_len s.bytes) (sym s.bytes.ok.0) s.chain
 
-pub push-reserved-requires : goal.push-reserved-requires
-push-reserved-requires c = let s = c.args.self.now in omega (arith, c.requires.few, count s, s.slots)
+pub push_reserved-requires : goal.push_reserved-requires
+push_reserved-requires c = let s = c.args.self.now in omega (arith, c.requires.few, count s, s.slots)
 
-pub invariant-of-self : goal.invariant-of-self
-invariant-of-self c =
+pub invariant_of-self : goal.invariant_of-self
+invariant_of-self c =
     let s = c.args.self.now in
-    let ok = c.extend-from-slice.ensures.succeeds (omega (arith, used s, c.requires.short, s.room)) in
-    let whole = pushed s c.args.text.now _ _ _ c.len.ensures c.push-reserved.ensures.items (chosen _ _ _ _ c.extend-from-slice.ensures.items ok) in
-    let end : vec_len c.extend-from-slice.new.self ≡ c.len.result + length c.args.text.now = chosen _ _ _ _ c.extend-from-slice.ensures.len ok ∙ ap (λ n. n + length c.args.text.now) (sym c.len.ensures) in (
-      rw (c.push-reserved.ensures.items, end) (chained_push 0 (vec_items s.ends) (vec_len s.bytes) (c.len.result + length c.args.text.now) s.chain (omega (arith, c.len.ensures))),
-      (
-        omega (arith, c.push-reserved.ensures.len, c.requires.few, count s),
-        (omega (arith, end, c.len.ensures, used s, c.requires.short), (omega (arith, c.push-reserved.ensures.capacity, s.slots), (omega (arith, c.extend-from-slice.ensures.capacity, s.room), (ap distinct whole ∙ distinct_push (held s) c.args.text.now s.apart c.requires.new, tt)))),
-      ),
-    )
+    let ok = c.extend_from_slice.ensures.succeeds (omega (arith, used s, c.requires.short, s.room)) in
+    let whole = pushed s c.args.text.now _ _ _ c.len.ensures c.push_reserved.ensures.items (chosen _ _ _ _ c.extend_from_slice.ensures.items ok) in
+    let end : vec_len c.extend_from_slice.new.self ≡ c.len.result + length c.args.text.now = chosen _ _ _ _ c.extend_from_slice.ensures.len ok ∙ ap (λ n. n + length c.args.text.now) (sym c.len.ensures) in
+    record {
+      chain = rw (c.push_reserved.ensures.items, end) (chained_push 0 (vec_items s.ends) (vec_len s.bytes) (c.len.result + length c.args.text.now) s.chain (omega (arith, c.len.ensures)));
+      few = omega (arith, c.push_reserved.ensures.len, c.requires.few, count s);
+      short = omega (arith, end, c.len.ensures, used s, c.requires.short);
+      slots = omega (arith, c.push_reserved.ensures.capacity, s.slots);
+      room = omega (arith, c.extend_from_slice.ensures.capacity, s.room);
+      apart = ap distinct whole ∙ distinct_push (held s) c.args.text.now s.apart c.requires.new;
+    }
 
 pub returns : goal.returns
 returns c =
     let s = c.args.self.now in
-    let ok = c.extend-from-slice.ensures.succeeds (omega (arith, used s, c.requires.short, s.room)) in
-    pushed s c.args.text.now _ _ _ c.len.ensures c.push-reserved.ensures.items (chosen _ _ _ _ c.extend-from-slice.ensures.items ok)
+    let ok = c.extend_from_slice.ensures.succeeds (omega (arith, used s, c.requires.short, s.room)) in
+    pushed s c.args.text.now _ _ _ c.len.ensures c.push_reserved.ensures.items (chosen _ _ _ _ c.extend_from_slice.ensures.items ok)

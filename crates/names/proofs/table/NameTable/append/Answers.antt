@@ -10,24 +10,24 @@ use Rattle.names.proofs.table.NameTable.append.Goals as goal
 pub push-requires : goal.push-requires
 push-requires c =
     let t = c.args.self.now in
-    let room = c.in-ok-name.ensures.room in
+    let room = c.in_ok-name.ensures.room in
     record {
       few = omega (arith, room.1, c.len.ensures);
       new = none_contained 0 (texts t) c.args.text.now c.requires;
       short = omega (arith, room.2, c.bytes.ensures.value);
     }
 
-pub invariant-of-self : goal.invariant-of-self
-invariant-of-self c =
+pub invariant_of-self : goal.invariant_of-self
+invariant_of-self c =
     let t = c.args.self.now in
-    (ap (begins built_in) c.push.ensures ∙ begins_push built_in (texts t) c.args.text.now t.known, tt)
+    record { known = ap (begins built_in) c.push.ensures ∙ begins_push built_in (texts t) c.args.text.now t.known }
 
 pub returns : goal.returns
 returns c =
     let t = c.args.self.now in
     let text = c.args.text.now in
-    let name = c.in-ok-name.name in
-    let next = c.in-ok-name.ensures in
+    let name = c.in_ok-name.name in
+    let next = c.in_ok-name.ensures in
     let counted : fits c.len.result c.bytes.result (length text) ≡ added (texts t) text = λ i. fits (c.len.ensures i) (c.bytes.ensures.value i) (length text) in
     let e = appended (texts t) text c.requires name (next.value ∙ counted) (next.room.0 ∙ ap numbered c.len.ensures) in
     record {

@@ -7,5 +7,5 @@ begun : begins built_in built_in ≡ true
 unfolding built_in xml_uri xmlns_uri
 begun = refl
 
-pub invariant-of-result : goal.invariant-of-result
-invariant-of-result c = (ap (begins built_in) c.in-ok-store.ensures ∙ begun, tt)
+pub invariant_of-result : goal.invariant_of-result
+invariant_of-result c = record { known = ap (begins built_in) c.in_ok-store.ensures ∙ begun }

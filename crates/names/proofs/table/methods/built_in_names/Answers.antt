@@ -8,4 +8,4 @@ more t ts us e = ap (λ l. l ++ t ∷ []) e
 pub returns : goal.returns
 unfolding built_in xml_uri xmlns_uri
 returns c =
-    c.push-6.ensures ∙ more _ _ _ (c.push-5.ensures ∙ more _ _ _ (c.push-4.ensures ∙ more _ _ _ (c.push-3.ensures ∙ more _ _ _ (c.push-2.ensures ∙ more _ _ _ (c.push.ensures ∙ more _ _ _ c.in-ok-store.ensures)))))
+    c.push-6.ensures ∙ more _ _ _ (c.push-5.ensures ∙ more _ _ _ (c.push-4.ensures ∙ more _ _ _ (c.push-3.ensures ∙ more _ _ _ (c.push-2.ensures ∙ more _ _ _ (c.push.ensures ∙ more _ _ _ c.in_ok-store.ensures)))))

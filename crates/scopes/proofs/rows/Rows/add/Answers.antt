@@ -6,20 +6,20 @@ use Rattle.scopes.proofs.Stacking.{above_bottom, add_climbs, add_stacked, add_fu
 use Rattle.scopes.proofs.Reserving.{free-added}
 use Rattle.scopes.proofs.rows.Rows.add.Goals as goal
 
-pub returns-then-not-has-binding-left : goal.returns-then-not-has-binding-left
-returns-then-not-has-binding-left c =
+pub returns-then-not-has_binding_left : goal.returns-then-not-has_binding_left
+returns-then-not-has_binding_left c =
     let r = c.args.self in
-    let full = ltb-false r.len 256 (sym c.if-not-has-binding-left.ensures) in
+    let full = ltb-false r.len 256 (sym c.if-not-has_binding_left.ensures) in
     record {
       rows = add_full r.bottom r.starts r.entries r.count r.len c.args.binding c.if-self-eq0.false r.stacked full (omega (arith, r.few, r.places));
       base = tt;
       free = λ _ _. tt;
     }
 
-pub invariant-of-rows : goal.invariant-of-rows
-invariant-of-rows c =
+pub invariant_of-rows : goal.invariant_of-rows
+invariant_of-rows c =
     let r = c.args.self in
-    let left = ltb-true r.len 256 (sym c.if-not-has-binding-left.ensures) in (
+    let left = ltb-true r.len 256 (sym c.if-not-has_binding_left.ensures) in (
       simp length-set r.places,
       (r.levels, (omega (arith, left), (r.shallow, (add_climbs r.bottom r.starts r.count r.len c.if-self-eq0.false r.stacked, tt)))),
     )
@@ -27,7 +27,7 @@ invariant-of-rows c =
 pub returns : goal.returns
 returns c =
     let r = c.args.self in
-    let left = ltb-true r.len 256 (sym c.if-not-has-binding-left.ensures) in
+    let left = ltb-true r.len 256 (sym c.if-not-has_binding_left.ensures) in
     let rows = add_stacked r.bottom r.starts r.entries r.count r.len c.args.binding c.if-self-eq0.false r.stacked left (omega (arith, left, r.places)) in
     record {
       rows = rows;

@@ -4,8 +4,8 @@ use Rattle.scopes.proofs.Stacking.{close_top, close_stacked}
 use Rattle.scopes.proofs.Reserving.{free-closed}
 use Rattle.scopes.proofs.rows.Rows.close_row.Goals as goal
 
-pub invariant-of-rows : goal.invariant-of-rows
-invariant-of-rows c =
+pub invariant_of-rows : goal.invariant_of-rows
+invariant_of-rows c =
     let r = c.args.self in
     let t = close_top r.bottom r.starts r.count r.len c.if-self-eq0.false r.stacked in
     (r.places, (r.levels, (omega (arith, t.low, r.few), (omega (arith, r.shallow), (t.on, tt)))))

@@ -15,17 +15,17 @@ here c = close_top _ _ c.loop-row.row _ (λ z. omega (arith, c.loop-row-test.tru
 pub loop-row-init : goal.loop-row-init
 loop-row-init c = let r = c.args.self.now in (r.stacked, r.few, refl)
 
-pub offset-bounds-self-start : goal.offset-bounds-self-start
-offset-bounds-self-start c = omega (arith, (here c).low, c.loop-row.invariant.1)
+pub offset_bounds-self-start : goal.offset_bounds-self-start
+offset_bounds-self-start c = omega (arith, (here c).low, c.loop-row.invariant.1)
 
-pub slice-bounds-find-in-count : goal.slice-bounds-find-in-count
-slice-bounds-find-in-count c = (here c).low
+pub slice_bounds-find_in-count : goal.slice_bounds-find_in-count
+slice_bounds-find_in-count c = (here c).low
 
-pub slice-bounds-find-in-start : goal.slice-bounds-find-in-start
-slice-bounds-find-in-start c = (here c).low
+pub slice_bounds-find_in-start : goal.slice_bounds-find_in-start
+slice_bounds-find_in-start c = (here c).low
 
-pub slice-bounds-find-in-end : goal.slice-bounds-find-in-end
-slice-bounds-find-in-end c = c.loop-row.invariant.1
+pub slice_bounds-find_in-end : goal.slice_bounds-find_in-end
+slice_bounds-find_in-end c = c.loop-row.invariant.1
 
 pub returns-in-Some : goal.returns-in-Some
 returns-in-Some c =
@@ -43,7 +43,7 @@ loop-row-preserved c =
     let t = close_top r.bottom r.starts c.loop-row.row c.loop-row.end (λ z. omega (arith, c.loop-row-test.true)) c.loop-row.invariant.0 in (
       t.on,
       omega (arith, t.low, c.loop-row.invariant.1),
-      ap (λ o. option_or o rest) c.in-default.ensures
+      ap (λ o. option_or o rest) c.in_default.ensures
           ∙ sym (rows_step r.starts r.entries c.loop-row.row c.loop-row.end c.args.prefix c.loop-row-test.true)
           ∙ c.loop-row.invariant.2,
     )

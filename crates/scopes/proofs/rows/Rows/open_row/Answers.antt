@@ -4,10 +4,10 @@ use Rattle.scopes.specs.Held.{held}
 use Rattle.scopes.proofs.Stacking.{length-stacked, open_stacked, open_climbs}
 use Rattle.scopes.proofs.rows.Rows.open_row.Goals as goal
 
-pub invariant-of-rows : goal.invariant-of-rows
-invariant-of-rows c =
+pub invariant_of-rows : goal.invariant_of-rows
+invariant_of-rows c =
     let r = c.args.self in
-    let left = ltb-true r.count 128 (sym c.if-not-has-row-left.ensures) in (
+    let left = ltb-true r.count 128 (sym c.if-not-has_row_left.ensures) in (
       r.places,
       (
         simp length-set r.levels,
@@ -18,7 +18,7 @@ invariant-of-rows c =
 pub returns : goal.returns
 returns c =
     let r = c.args.self in
-    let left = ltb-true r.count 128 (sym c.if-not-has-row-left.ensures) in
+    let left = ltb-true r.count 128 (sym c.if-not-has_row_left.ensures) in
     record {
       rows =
           ap Ok (open_stacked r.starts r.entries r.count r.len (omega (arith, r.levels, left)))

@@ -4,16 +4,16 @@ use Rattle.scopes.specs.Rows.{in_row}
 use Rattle.scopes.proofs.Searching.{row_here, row_on}
 use Rattle.scopes.proofs.rows.methods.find_in.Goals as goal
 
-pub returns-then-is-of : goal.returns-then-is-of
-returns-then-is-of c =
+pub returns-then-is_of : goal.returns-then-is_of
+returns-then-is_of c =
     let bs = c.args.bindings.now in
-    sym (row_here c.args.row c.loop-place.place bs c.args.prefix c.loop-place-test.true (sym c.if-is-of.ensures))
+    sym (row_here c.args.row c.loop-place.place bs c.args.prefix c.loop-place-test.true (sym c.if-is_of.ensures))
     ∙ c.loop-place.invariant
 
 pub loop-place-preserved : goal.loop-place-preserved
 loop-place-preserved c =
     let bs = c.args.bindings.now in
-    sym (row_on c.args.row c.loop-place.place bs c.args.prefix c.loop-place-test.true (sym c.if-is-of.ensures))
+    sym (row_on c.args.row c.loop-place.place bs c.args.prefix c.loop-place-test.true (sym c.if-is_of.ensures))
     ∙ c.loop-place.invariant
 
 pub returns : goal.returns

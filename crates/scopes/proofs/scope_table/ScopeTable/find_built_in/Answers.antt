@@ -8,7 +8,7 @@ use Rattle.scopes.proofs.scope_table.ScopeTable.find_built_in.Goals as goal
 pub returns-in-Some : goal.returns-in-Some
 returns-in-Some c =
     let t = c.args.self.now in
-    ap BuiltIn c.unwrap-or.ensures
+    ap BuiltIn c.unwrap_or.ensures
     ∙ ap from_found (c.in-Some.ensures ∙ ap (λ bs. in_row 0 0 bs c.args.prefix) c.base.ensures)
     ∙ built_in_found (base t.rows) c.args.prefix t.below
 

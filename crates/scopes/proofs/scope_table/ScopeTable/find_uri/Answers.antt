@@ -10,7 +10,7 @@ returns c =
     let tag = c.args.tag.now in
     let rows = rows_of c.args.self.now in
     let p = c.args.prefix in
-    let value = c.find-binding.ensures ∙ tag_look tag rows p in
+    let value = c.find_binding.ensures ∙ tag_look tag rows p in
     record {
       value = value;
       scoped = subst (Scoped (tag ∷ rows) p) (sym value) (scoped (tag ∷ rows) p);
