@@ -1,8 +1,7 @@
-use Rattle.std.proofs.lemmas.Slice.Eq.{bytes_eq-Decides, slice_eq-Decides}
-use Rattle.std.proofs.lemmas.Bool.Decides.{same_from_decides, Decides-eqb}
+use Rattle.std.proofs.Common.{rules}
 use Rattle.names.specs.BuiltIn.{xml_uri}
 use Rattle.scopes.proofs.declarations.is_xml_uri.Goals as goal
 
 pub returns : goal.returns
 unfolding xml_uri
-returns c = same_from_decides _ _ (slice_eq-Decides Decides-eqb _ _ _ c.eq.ensures) (bytes_eq-Decides _ _)
+returns c = search rules

@@ -19,10 +19,14 @@ returns-then-not-has_binding_left c =
 pub invariant_of-rows : goal.invariant_of-rows
 invariant_of-rows c =
     let r = c.args.self in
-    let left = ltb-true r.len 256 (sym c.if-not-has_binding_left.ensures) in (
-      simp length-set r.places,
-      (r.levels, (omega (arith, left), (r.shallow, (add_climbs r.bottom r.starts r.count r.len c.if-self-eq0.false r.stacked, tt)))),
-    )
+    let left = ltb-true r.len 256 (sym c.if-not-has_binding_left.ensures) in
+    record {
+      places = simp length-set r.places;
+      levels = r.levels;
+      few = omega (arith, left);
+      shallow = r.shallow;
+      stacked = add_climbs r.bottom r.starts r.count r.len c.if-self-eq0.false r.stacked;
+    }
 
 pub returns : goal.returns
 returns c =

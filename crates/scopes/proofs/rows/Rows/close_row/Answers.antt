@@ -8,7 +8,13 @@ pub invariant_of-rows : goal.invariant_of-rows
 invariant_of-rows c =
     let r = c.args.self in
     let t = close_top r.bottom r.starts r.count r.len c.if-self-eq0.false r.stacked in
-    (r.places, (r.levels, (omega (arith, t.low, r.few), (omega (arith, r.shallow), (t.on, tt)))))
+    record {
+      places = r.places;
+      levels = r.levels;
+      few = omega (arith, t.low, r.few);
+      shallow = omega (arith, r.shallow);
+      stacked = t.on;
+    }
 
 pub returns : goal.returns
 returns c =

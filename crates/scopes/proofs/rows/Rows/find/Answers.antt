@@ -9,7 +9,7 @@ use Rattle.scopes.proofs.Relating.{answered}
 use Rattle.scopes.proofs.rows.Rows.find.Goals as goal
 
 -- the bounds of the row that is searched
-here : (c : goal.After-start·1) → Top c.args.self.now.bottom c.args.self.now.starts (c.loop-row.row - 1) c.loop-row.end
+here : (c : goal.After-start-1) → Top c.args.self.now.bottom c.args.self.now.starts (c.loop-row.row - 1) c.loop-row.end
 here c = close_top _ _ c.loop-row.row _ (λ z. omega (arith, c.loop-row-test.true)) c.loop-row.invariant.0
 
 pub loop-row-init : goal.loop-row-init

@@ -7,13 +7,14 @@ use Rattle.scopes.proofs.rows.Rows.open_row.Goals as goal
 pub invariant_of-rows : goal.invariant_of-rows
 invariant_of-rows c =
     let r = c.args.self in
-    let left = ltb-true r.count 128 (sym c.if-not-has_row_left.ensures) in (
-      r.places,
-      (
-        simp length-set r.levels,
-        (r.few, (omega (arith, left), (open_climbs r.bottom r.starts r.count r.len (omega (arith, r.levels, left)) r.stacked, tt))),
-      ),
-    )
+    let left = ltb-true r.count 128 (sym c.if-not-has_row_left.ensures) in
+    record {
+      places = r.places;
+      levels = simp length-set r.levels;
+      few = r.few;
+      shallow = omega (arith, left);
+      stacked = open_climbs r.bottom r.starts r.count r.len (omega (arith, r.levels, left)) r.stacked;
+    }
 
 pub returns : goal.returns
 returns c =
