@@ -8,7 +8,6 @@ use listing::{ListedKind, ListedTag, ListedToken, read_token};
 use names::{NameTable, QualName};
 use scopes::{Binding, MOST_BINDINGS, ScopeFault, ScopeTable};
 use std::alloc::{AllocError, Global};
-use std::fmt;
 use std::fmt::Write;
 
 // Before the root element, inside it, and after the document has ended on a line.
@@ -68,7 +67,7 @@ fn is_bound(phase: Phase, kind: ListedKind) -> bool {
 }
 
 // Says that something does not come about, and why.
-fn write_phase(out: &mut String, what: &str, phase: Phase) -> fmt::Result {
+fn write_phase(out: &mut String, what: &str, phase: Phase) -> Result<(), AllocError> {
     match phase {
         Phase::Start => writeln!(out, "  {what}: the root element has not begun"),
         Phase::Main => writeln!(out, "  {what}"),
@@ -240,7 +239,7 @@ impl Reading {
     // Closes the open element at a place, and all inside it. There is no place where no element was found.
     fn close_from(&mut self, at: Option<usize>, line: usize, out: &mut String) -> Result<(), Stop> {
         let Some(place) = at else {
-            out.write_str("  closes nothing: no open element has this name\n")?;
+            out.push_str("  closes nothing: no open element has this name\n")?;
             return Ok(());
         };
         let count = self.open.len();

@@ -39,7 +39,7 @@ fn render(heap: Global, reading: &mut Reading, listing: &[u8]) -> Result<Report,
     let complete = read_all(heap, reading, listing, &mut text)?;
     reading.tally.write_summary(&mut text, &reading.names)?;
     if !complete {
-        text.write_str("  the listing was not read to its end\n")?;
+        text.push_str("  the listing was not read to its end\n")?;
     }
     Ok(Report { text, complete })
 }

@@ -2,8 +2,7 @@
 use listing::{Expected, ListingFault};
 use names::NameFault;
 use scopes::ScopeFault;
-use std::alloc::AllocFailed;
-use std::fmt;
+use std::alloc::{AllocError, AllocFailed};
 
 // Lack of memory ends the whole report. The others are printed, and what was printed before stays.
 #[derive(Clone, Copy)]
@@ -22,8 +21,8 @@ impl<T: Drop> From<AllocFailed<T>> for Stop {
 }
 
 // A report is written to memory, so nothing else fails there.
-impl From<fmt::Error> for Stop {
-    fn from(_e: fmt::Error) -> Stop {
+impl From<AllocError> for Stop {
+    fn from(_e: AllocError) -> Stop {
         Stop::Memory
     }
 }

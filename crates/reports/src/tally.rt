@@ -6,8 +6,7 @@ use crate::words::error_words;
 use crate::write::{item_word, write_reason};
 use listing::ListedKind;
 use names::{ErrorCode, NameTable};
-use std::alloc::Global;
-use std::fmt;
+use std::alloc::{AllocError, Global};
 use std::fmt::Write;
 
 // A name that landed in no namespace.
@@ -88,10 +87,10 @@ impl Tally {
         self.note_error(name.error)
     }
 
-    fn write_strays(&self, out: &mut String, names: &NameTable) -> fmt::Result {
-        out.write_str("  names in no namespace:\n")?;
+    fn write_strays(&self, out: &mut String, names: &NameTable) -> Result<(), AllocError> {
+        out.push_str("  names in no namespace:\n")?;
         if self.strays.is_empty() {
-            out.write_str("    none\n")?;
+            out.push_str("    none\n")?;
         }
         for stray in self.strays.iter() {
             let line = stray.line;
@@ -99,15 +98,15 @@ impl Tally {
             let name = name_text(names, stray.name.name);
             write!(out, "    line {line}: {item} {name} (")?;
             write_reason(out, names, stray.name)?;
-            out.write_str(")\n")?;
+            out.push_str(")\n")?;
         }
         Ok(())
     }
 
-    fn write_errors(&self, out: &mut String) -> fmt::Result {
-        out.write_str("  errors:\n")?;
+    fn write_errors(&self, out: &mut String) -> Result<(), AllocError> {
+        out.push_str("  errors:\n")?;
         if self.errors.is_empty() {
-            out.write_str("    none\n")?;
+            out.push_str("    none\n")?;
         }
         for code in KINDS {
             let count = count_of(self.errors.as_slice(), code);
@@ -120,7 +119,11 @@ impl Tally {
         Ok(())
     }
 
-    pub(crate) fn write_summary(&self, out: &mut String, names: &NameTable) -> fmt::Result {
+    pub(crate) fn write_summary(
+        &self,
+        out: &mut String,
+        names: &NameTable,
+    ) -> Result<(), AllocError> {
         let tags = self.tags;
         let bound = self.bound;
         let elements = self.elements;

@@ -7,7 +7,7 @@ use crate::words::error_words;
 use listing::{ListedKind, ListedTag, Shown};
 use names::NameTable;
 use scopes::Verdict;
-use std::fmt;
+use std::alloc::AllocError;
 use std::fmt::Write;
 
 fn kind_word(kind: ListedKind) -> &'static str {
@@ -26,7 +26,7 @@ pub(crate) fn item_word(item: Item) -> &'static str {
     }
 }
 
-pub(crate) fn write_head(out: &mut String, line: usize, tag: &ListedTag) -> fmt::Result {
+pub(crate) fn write_head(out: &mut String, line: usize, tag: &ListedTag) -> Result<(), AllocError> {
     let kind = kind_word(tag.kind);
     let name = listed_text(&tag.name);
     writeln!(out, "line {line}: {kind} {name}")
@@ -37,7 +37,7 @@ pub(crate) fn write_declaration(
     names: &NameTable,
     declaration: &Declaration,
     verdict: Verdict,
-) -> fmt::Result {
+) -> Result<(), AllocError> {
     let name = name_text(names, declaration.name);
     let value = Shown(declaration.value.as_slice());
     let prefix = PrefixText(prefix_text(names, declaration.prefix));
@@ -55,34 +55,46 @@ pub(crate) fn write_declaration(
 }
 
 // Why a name is in no namespace. The other origins do not come here.
-pub(crate) fn write_reason(out: &mut String, names: &NameTable, name: Resolved) -> fmt::Result {
+pub(crate) fn write_reason(
+    out: &mut String,
+    names: &NameTable,
+    name: Resolved,
+) -> Result<(), AllocError> {
     let prefix = PrefixSubject(prefix_text(names, name.name.prefix));
     match name.origin {
         Origin::Undeclared { line } => write!(out, "{prefix} is undeclared on line {line}"),
         Origin::Unbound => write!(out, "{prefix} is not bound"),
-        Origin::NoDefault => out.write_str("no default namespace is declared"),
-        Origin::NoPrefix => out.write_str("it has no prefix"),
-        Origin::Declared { .. } | Origin::BuiltIn(_) => out.write_str("it has a namespace"),
+        Origin::NoDefault => out.push_str("no default namespace is declared"),
+        Origin::NoPrefix => out.push_str("it has no prefix"),
+        Origin::Declared { .. } | Origin::BuiltIn(_) => out.push_str("it has a namespace"),
     }
 }
 
-fn write_no_namespace(out: &mut String, names: &NameTable, name: Resolved) -> fmt::Result {
+fn write_no_namespace(
+    out: &mut String,
+    names: &NameTable,
+    name: Resolved,
+) -> Result<(), AllocError> {
     match name.error {
         Some(code) => {
             let number = code.number();
             write!(out, "no namespace; error {number}: ")?;
             write_reason(out, names, name)?;
-            out.write_str("\n")
+            out.push_str("\n")
         }
         None => {
-            out.write_str("no namespace (")?;
+            out.push_str("no namespace (")?;
             write_reason(out, names, name)?;
-            out.write_str(")\n")
+            out.push_str(")\n")
         }
     }
 }
 
-pub(crate) fn write_resolved(out: &mut String, names: &NameTable, name: Resolved) -> fmt::Result {
+pub(crate) fn write_resolved(
+    out: &mut String,
+    names: &NameTable,
+    name: Resolved,
+) -> Result<(), AllocError> {
     let item = item_word(name.item);
     let shown = name_text(names, name.name);
     let prefix = PrefixText(prefix_text(names, name.name.prefix));
@@ -108,7 +120,7 @@ pub(crate) fn write_closed(
     names: &NameTable,
     open: &[OpenElement],
     place: usize,
-) -> fmt::Result {
+) -> Result<(), AllocError> {
     let Some(element) = open.get(place) else {
         return Ok(());
     };
@@ -116,8 +128,8 @@ pub(crate) fn write_closed(
     let line = element.line;
     write!(out, "  closes {name} (line {line})")?;
     match open.len().saturating_sub(place) {
-        0 | 1 => out.write_str("\n"),
-        2 => out.write_str(" and 1 element inside it\n"),
+        0 | 1 => out.push_str("\n"),
+        2 => out.push_str(" and 1 element inside it\n"),
         all => {
             let inside = all.saturating_sub(1);
             writeln!(out, " and {inside} elements inside it")
@@ -126,12 +138,12 @@ pub(crate) fn write_closed(
 }
 
 // A malformed line has nothing printed yet, and a refused tag its first line.
-pub(crate) fn write_stop(out: &mut String, line: usize, stop: Stop) -> fmt::Result {
+pub(crate) fn write_stop(out: &mut String, line: usize, stop: Stop) -> Result<(), AllocError> {
     match stop {
-        Stop::Memory => out.write_str("  out of memory"),
+        Stop::Memory => out.push_str("  out of memory"),
         Stop::Malformed(expected) => write!(out, "line {line}: malformed, expected {expected}"),
         Stop::Refusal { number, words } => write!(out, "  refused, number {number}: {words}"),
         Stop::Mistake(words) => write!(out, "  a mistake of this program: {words}"),
     }?;
-    out.write_str("; reading ends here\n")
+    out.push_str("; reading ends here\n")
 }
