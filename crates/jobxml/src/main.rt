@@ -4,6 +4,7 @@
 use reports::{Command, HELP, Input, parse, scopes_report};
 use std::fmt::Display;
 use std::io::Read;
+use std::process::ExitCode;
 use std::{env, fs, io};
 
 // What went wrong stands on standard error or in the report already, so the status is all that is left to give.
@@ -64,16 +65,24 @@ fn words_given(rt: &HostRuntime) -> io::Result<Vec<String>> {
     Ok(env::args(rt)?.skip(1).collect(rt.alloc())?)
 }
 
-fn main(rt: HostRuntime) -> Result<(), Failed> {
-    let words = match words_given(&rt) {
+fn run_words(rt: &HostRuntime) -> Result<(), Failed> {
+    let words = match words_given(rt) {
         Ok(words) => words,
-        Err(e) => return Err(say_fault(&rt, "read", "the arguments", e)),
+        Err(e) => return Err(say_fault(rt, "read", "the arguments", e)),
     };
     match parse(words.as_slice()) {
-        Ok(command) => run(&rt, command),
+        Ok(command) => run(rt, command),
         Err(usage) => {
             let _ = eprint!(rt; "{usage}");
             Err(Failed)
         }
+    }
+}
+
+// An error of `main` would be printed once more, so the status is returned.
+fn main(rt: HostRuntime) -> ExitCode {
+    match run_words(&rt) {
+        Ok(()) => ExitCode::SUCCESS,
+        Err(Failed) => ExitCode::FAILURE,
     }
 }
