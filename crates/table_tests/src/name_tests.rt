@@ -77,7 +77,7 @@ fn equal_texts_have_one_number(rt: HostRuntime) -> Result<(), Fail> {
     assert!(rt; table.find(b"jo").is_none());
     match table.text(Name(7)) {
         Some(text) => {
-            assert!(rt; text == b"Job");
+            assert!(rt; text == b"Job".as_slice());
             Ok(())
         },
         None => fail("no text"),
