@@ -1,5 +1,5 @@
 -- Where the lines of a text end.
-use Rattle.std.specs.Prelude.{◌≡◌, ℕ, ◌+◌, ◌-◌, ◌<◌, ◌≤◌, Bool, cond, List, length, take, drop, ◌==◌, ◌≢◌, slice_index}
+use Rattle.std.specs.Prelude.{◌≡◌, ℕ, ◌+◌, ◌-◌, ◌<◌, ◌≤◌, cond, List, length, take, drop, ◌==◌, ◌≢◌, slice_index}
 
 -- n is the place of the first line feed (10), or the length of the text where there is none
 abbrev pub EndsAt : List ℕ → ℕ → Type 0

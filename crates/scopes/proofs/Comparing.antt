@@ -1,5 +1,5 @@
 -- When two prefixes, or two lists of bindings, are the same. Assumes nothing.
-use Rattle.std.proofs.Common.{◌≡◌, ℕ, true, false, ◌&&◌, List, [], ◌∷◌, Some, None, Decides, Option, sym, refl, ap, arith}
+use Rattle.std.proofs.Common.{◌≡◌, ℕ, true, ◌&&◌, List, [], ◌∷◌, Some, None, Decides, Option, sym, refl, ap, arith}
 use Rattle.std.proofs.lemmas.Bool.{and_parts, eqb-true, eq-eqb, false≢true}
 use Rattle.names.specs.declared.qualified.Name.{Name}
 use Rattle.names.specs.Names.{numbered}

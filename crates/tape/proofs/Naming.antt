@@ -1,6 +1,5 @@
 -- The attributes of a tag, entered one by one. Assumes nothing.
-use Rattle.std.proofs.Common.{◌≡◌, ℕ, ◌+◌, ◌-◌, ◌≤◌, List, [], ◌∷◌, ◌++◌, length, get_or, take, drop, Ok, Err, Result, sym, refl, ap, ◌∙◌, arith}
-use Rattle.std.proofs.lemmas.List.{take_rest}
+use Rattle.std.proofs.Common.{◌≡◌, ℕ, ◌+◌, ◌≤◌, List, [], ◌∷◌, ◌++◌, length, get_or, drop, Ok, Result, sym, refl, ap, ◌∙◌, arith}
 use Rattle.names.specs.declared.qualified.QualName.{QualName}
 use Rattle.names.specs.declared.refusals.NameFault.{NameFault}
 use Rattle.names.specs.declared.spans.Attribute.{Attribute}

@@ -3,7 +3,7 @@ use Rattle.std.proofs.Common.{◌≡◌, ℕ, zero, suc, ◌+◌, ◌-◌, ◌*�
 use native.Mathlib.Nat.{sub-zero}
 use Rattle.std.proofs.lemmas.List.{take_rest}
 use Rattle.tape.specs.declared.faults.TapeCause.{TapeCause}
-use Rattle.tape.specs.declared.faults.TapeCause.TheVariants.{WrongWord, NoWord}
+use Rattle.tape.specs.declared.faults.TapeCause.TheVariants.{WrongWord}
 use Rattle.tape.specs.declared.words.Head.{Head}
 use Rattle.tape.specs.declared.words.Head.TheVariants as head
 use Rattle.tape.specs.declared.words.Slot.{Slot}

@@ -1,5 +1,5 @@
 -- Where a reader of a tape stands. Assumes nothing.
-use Rattle.std.specs.Prelude.{ℕ, Bool, true, false, List, [], ◌∷◌, length, ◌==◌}
+use Rattle.std.specs.Prelude.{ℕ, Bool, List, length, ◌==◌}
 use Rattle.tape.specs.declared.cursor.Tape.{Tape}
 
 -- the words that are left with the index of the first, and the whole text with the place of the next part

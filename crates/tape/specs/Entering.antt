@@ -7,7 +7,6 @@ use Rattle.names.specs.declared.qualified.Name.{Name}
 use Rattle.names.specs.declared.qualified.QualName.{QualName}
 use Rattle.names.specs.declared.refusals.NameFault.{NameFault}
 use Rattle.names.specs.declared.spans.Attribute.{Attribute}
-use Rattle.names.specs.declared.spans.Span.{Span}
 use Rattle.tape.specs.Words.{payload_of, is_text}
 use Rattle.tape.specs.Parts.{text_of}
 

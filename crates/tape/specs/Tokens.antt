@@ -1,6 +1,6 @@
 -- The token that right words make, with what is entered into the name table and written to the attribute table.
 -- Assumes nothing.
-use Rattle.std.specs.Prelude.{ℕ, ◌+◌, Bool, true, false, ◌||◌, List, [], ◌∷◌, ◌++◌, length, drop, Some, None, Ok, Err, Option, Result, nat_lt, slice_index}
+use Rattle.std.specs.Prelude.{ℕ, ◌+◌, Bool, false, ◌||◌, List, [], ◌++◌, length, drop, None, Ok, Err, Option, Result, nat_lt, slice_index}
 use Rattle.std.specs.Option.{option_map}
 use Rattle.names.specs.Names.{numbered}
 use Rattle.names.specs.declared.qualified.QualName.{QualName}

@@ -1,8 +1,8 @@
-use Rattle.std.proofs.Common.{◌≡◌, ◌+◌, ◌-◌, ◌≤◌, length, take, drop, Err, sym, ap, ◌∙◌, arith}
+use Rattle.std.proofs.Common.{◌-◌, ◌≤◌, length, take, drop, Err, ap, ◌∙◌, arith}
 use Rattle.std.proofs.lemmas.List.{take_rest, length-take-le, length-drop}
 use Rattle.std.proofs.lemmas.Result.{err_from_is_err_and, IfOk-from_err}
 use Rattle.std.proofs.lemmas.Bool.{ltb-false}
-use Rattle.tape.specs.Scans.{scan_of, part_count}
+use Rattle.tape.specs.Scans.{scan_of}
 use Rattle.tape.proofs.Scanning.{taken_apart, refused_apart, parts_length}
 use Rattle.tape.proofs.scans.scan.Goals as goal
 

@@ -1,4 +1,4 @@
-use Rattle.std.proofs.Common.{sym, ◌∙◌, arith}
+use Rattle.std.proofs.Common.{sym, arith}
 use Rattle.std.proofs.lemmas.Bool.{ltb-false}
 use Rattle.tape.proofs.Scanning.{filled_first}
 use Rattle.tape.proofs.scans.skip_slot.Goals as goal
