@@ -8,6 +8,6 @@ mod commands;
 #[cfg(test)]
 mod limits;
 #[cfg(test)]
-mod names;
+mod namespaces;
 #[cfg(test)]
 mod phases;
