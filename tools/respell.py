@@ -1,7 +1,7 @@
 #!/usr/bin/env python3
 """Respells the definitions and lemmas of this repository as today's Rattle spells its own.
 
-usage: python3 tools/respell.py        at the top of the repository, once, after port.py
+usage: python3 tools/respell.py        at the top of the repository, once, after the kit's port.py and on nothing else
 
 Functions, lemmas, fields and constructors of specs/ and proofs/ are in snake case, and facts are one word in camel case.
 A dash stays where it joins the names of two definitions, as in `length-cuts`. The code of src/ keeps its names: of an
@@ -45,16 +45,9 @@ OTHERS = {
     "same-decides": "same-Decides",
 }
 
-# What port.py respelled in the crates, for the documents.
-IN_DOCUMENTS = "startOf tagOf textOf valueOf takenOf writtenOf rowsOf rowsBy writtenBy headOf kindOf slotsOf inRow atStart"
-
 
 def snake(name):
     return re.sub(r"([a-z0-9])([A-Z])", lambda m: m[1] + "_" + m[2].lower(), name).replace("-", "_")
-
-
-def table(*lists):
-    return {name: snake(name) for names in lists for name in names.split()} | OTHERS
 
 
 def respelled(text, names):
@@ -64,11 +57,11 @@ def respelled(text, names):
 
 
 def main():
-    crates, documents = table(CAMEL, DASHED), table(CAMEL, DASHED, IN_DOCUMENTS)
+    names = {name: snake(name) for name in (CAMEL + DASHED).split()} | OTHERS
     top = pathlib.Path(".")
-    files = [(f, crates) for kind in ("rt", "antt") for f in top.glob(f"crates/*/**/*.{kind}") if "out" not in f.parts]
-    files += [(f, documents) for f in [*top.glob("docs/*.md"), top / "README.md"] if f.name != "PORT.md"]
-    for f, names in files:
+    files = [f for kind in ("rt", "antt") for f in top.glob(f"crates/*/**/*.{kind}") if "out" not in f.parts]
+    files += [f for f in [*top.glob("docs/*.md"), top / "README.md"] if f.name != "PORT.md"]
+    for f in files:
         old = f.read_text(encoding="utf-8")
         new = respelled(old, names)
         if new != old:

@@ -8,7 +8,6 @@ use listing::{ListedKind, ListedTag, ListedToken, read_token};
 use names::{NameTable, QualName};
 use scopes::{Binding, MOST_BINDINGS, ScopeFault, ScopeTable};
 use std::alloc::{AllocError, Global};
-use std::fmt::Write;
 
 // Before the root element, inside it, and after the document has ended on a line.
 #[derive(Clone, Copy)]

@@ -4,7 +4,6 @@ use crate::stop::Stop;
 use crate::write::write_stop;
 use listing::lines_of;
 use std::alloc::{AllocError, Global};
-use std::fmt::Write;
 
 // `complete` is false where a line was malformed or a tag was refused, so that the rest was not read.
 #[derive(Drop)]

@@ -7,7 +7,6 @@ use crate::write::{item_word, write_reason};
 use listing::ListedKind;
 use names::{ErrorCode, NameTable};
 use std::alloc::{AllocError, Global};
-use std::fmt::Write;
 
 // A name that landed in no namespace.
 #[derive(Clone, Copy)]

@@ -8,7 +8,6 @@ use listing::{ListedKind, ListedTag, Shown};
 use names::NameTable;
 use scopes::Verdict;
 use std::alloc::AllocError;
-use std::fmt::Write;
 
 fn kind_word(kind: ListedKind) -> &'static str {
     match kind {
