@@ -1,4 +1,7 @@
 // What the arguments of the program ask for.
+ghost use Rattle.std.specs.Prelude.{◌≡◌, None, map, string_bytes};
+ghost use Rattle.reports.specs.Arguments.{asks_help, is_option, listing_named, listing_of, after_scopes, request, request_of};
+
 use listing::Shown;
 use std::fmt;
 
@@ -91,15 +94,36 @@ impl fmt::Display for Usage<'_> {
     }
 }
 
-fn is_option(word: &str) -> bool {
-    word != "-" && word.starts_with('-')
+// A lone `-` is no option: it stands for standard input.
+fn is_option(word: &str) -> bool
+    ensures { result ≡ is_option word.now }
+{
+    matches!(word.as_bytes(), [b'-', _, ..])
 }
 
-fn scopes_input(words: &[String]) -> Result<Command<'_>, Usage<'_>> {
+fn asks_help(word: &str) -> bool
+    ensures { result ≡ asks_help word.now }
+{
+    word == "--help" || word == "-h"
+}
+
+fn named_input(file: &str) -> Input<'_>
+    ensures { listing_of result ≡ listing_named file.now }
+{
+    if file == "-" {
+        Input::Standard
+    } else {
+        Input::File(file)
+    }
+}
+
+fn scopes_input(words: &[String]) -> Result<Command<'_>, Usage<'_>>
+    ensures { request_of result ≡ after_scopes None (map string_bytes words.now) }
+{
     let mut input = None;
     for word in words {
         let word = word.as_str();
-        if word == "--help" || word == "-h" {
+        if asks_help(word) {
             return Ok(Command::Help);
         }
         if is_option(word) {
@@ -110,15 +134,17 @@ fn scopes_input(words: &[String]) -> Result<Command<'_>, Usage<'_>> {
         }
         input = Some(word);
     }
-    match input {
-        None => Ok(Command::Scopes(Input::Standard)),
-        Some("-") => Ok(Command::Scopes(Input::Standard)),
-        Some(file) => Ok(Command::Scopes(Input::File(file))),
-    }
+    let input = match input {
+        None => Input::Standard,
+        Some(file) => named_input(file),
+    };
+    Ok(Command::Scopes(input))
 }
 
 // Reads the words after the program's own name.
-pub fn parse(words: &[String]) -> Result<Command<'_>, Usage<'_>> {
+pub fn parse(words: &[String]) -> Result<Command<'_>, Usage<'_>>
+    ensures { request_of result ≡ request (map string_bytes words.now) }
+{
     let [first, rest @ ..] = words else {
         return Err(Usage::Nothing);
     };

@@ -20,7 +20,7 @@ impl<T: Drop> From<AllocFailed<T>> for Stop {
     }
 }
 
-// A report is written to memory, so nothing else fails there.
+// A report is written to memory, and a lack of it is all that can go wrong there.
 impl From<AllocError> for Stop {
     fn from(_e: AllocError) -> Stop {
         Stop::Memory
