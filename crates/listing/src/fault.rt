@@ -1,4 +1,7 @@
 // What can go wrong with a line of a listing.
+ghost use Rattle.std.specs.Prelude.{◌≡◌};
+ghost use Rattle.listing.specs.declared.fault.ListingFault.TheVariants as fault;
+
 use std::alloc::{AllocError, AllocFailed};
 use std::fmt;
 
@@ -49,18 +52,24 @@ pub enum ListingFault {
 }
 
 impl From<Expected> for ListingFault {
+    ghost from_gives = { λ e r. r ≡ fault.Expected e };
+
     fn from(expected: Expected) -> ListingFault {
         ListingFault::Expected(expected)
     }
 }
 
 impl From<AllocError> for ListingFault {
+    ghost from_gives = { λ _ r. r ≡ fault.Memory };
+
     fn from(_e: AllocError) -> ListingFault {
         ListingFault::Memory
     }
 }
 
 impl<T: Drop> From<AllocFailed<T>> for ListingFault {
+    ghost from_gives = { λ _ r. r ≡ fault.Memory };
+
     fn from(_e: AllocFailed<T>) -> ListingFault {
         ListingFault::Memory
     }

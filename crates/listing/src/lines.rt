@@ -1,7 +1,8 @@
 // Takes a text apart into its lines.
 ghost use Rattle.std.specs.Prelude.{◌≡◌, ◌<◌, length};
-ghost use Rattle.listing.specs.Ends.{EndsAt, without_return, FirstLine};
 ghost use Rattle.std.specs.Iterator.{at_most};
+ghost use Rattle.std.specs.Option.{option_map};
+ghost use Rattle.listing.specs.Ends.{EndsAt, without_return, FirstLine, GivesLine};
 
 // The index of the first line feed, or the length of the text where there is none.
 fn line_end(text: &[u8]) -> usize
@@ -50,6 +51,8 @@ pub struct Lines<'a> {
 
 impl<'a> Iterator for Lines<'a> {
     type Item = &'a [u8];
+
+    ghost next_gives = { λ s r t. GivesLine s.rest.now (option_map (λ x. x.now) r) t.rest.now };
 
     ghost remaining = { λ s. at_most (length s.rest.now) };
 
