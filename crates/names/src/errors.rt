@@ -3,20 +3,20 @@ ghost use Rattle.std.specs.Prelude.{◌≡◌};
 ghost use Rattle.names.specs.Errors.{code_number};
 
 // What is wrong with a document, by the number under which it is noted. No error has the number 5.
-#[derive(Clone, Copy)]
+#[derive(Clone, Copy, PartialEq, Eq)]
 pub enum ErrorCode {
-    TokenizerError,
-    XmlnsUriDeclared,
-    XmlPrefixDeclared,
-    XmlnsPrefixDeclared,
-    DeclaredTwice,
-    UnboundPrefix,
-    EndTagMismatch,
-    NoRootElement,
-    UnexpectedInStart,
-    UnexpectedInMain,
-    UnexpectedInEnd,
-    DuplicateAttribute,
+    TokenizerError = 0,
+    XmlnsUriDeclared = 1,
+    XmlPrefixDeclared = 2,
+    XmlnsPrefixDeclared = 3,
+    DeclaredTwice = 4,
+    UnboundPrefix = 6,
+    EndTagMismatch = 7,
+    NoRootElement = 8,
+    UnexpectedInStart = 9,
+    UnexpectedInMain = 10,
+    UnexpectedInEnd = 11,
+    DuplicateAttribute = 12,
 }
 
 impl ErrorCode {
@@ -24,19 +24,6 @@ impl ErrorCode {
     pub fn number(self) -> u8
         ensures { result ≡ code_number self }
     {
-        match self {
-            ErrorCode::TokenizerError => 0,
-            ErrorCode::XmlnsUriDeclared => 1,
-            ErrorCode::XmlPrefixDeclared => 2,
-            ErrorCode::XmlnsPrefixDeclared => 3,
-            ErrorCode::DeclaredTwice => 4,
-            ErrorCode::UnboundPrefix => 6,
-            ErrorCode::EndTagMismatch => 7,
-            ErrorCode::NoRootElement => 8,
-            ErrorCode::UnexpectedInStart => 9,
-            ErrorCode::UnexpectedInMain => 10,
-            ErrorCode::UnexpectedInEnd => 11,
-            ErrorCode::DuplicateAttribute => 12,
-        }
+        self as u8
     }
 }

@@ -10,6 +10,6 @@ mod table;
 
 pub use errors::ErrorCode;
 pub use qualified::{ExpandedName, Name, QualName, XML_URI, XMLNS_URI};
-pub use refusals::{Layer, NameFault, Refusal};
+pub use refusals::{Layer, NameFault, Refusal, RefusalCode};
 pub use spans::{Attribute, Span};
 pub use table::NameTable;
