@@ -134,11 +134,7 @@ fn scopes_input(words: &[String]) -> Result<Command<'_>, Usage<'_>>
         }
         input = Some(word);
     }
-    let input = match input {
-        None => Input::Standard,
-        Some(file) => named_input(file),
-    };
-    Ok(Command::Scopes(input))
+    Ok(Command::Scopes(input.map_or(Input::Standard, named_input)))
 }
 
 // Reads the words after the program's own name.

@@ -1,8 +1,9 @@
 // Open elements, and where the names of a tag find their namespaces.
-use crate::stop::Stop;
+use listing::ListedKind;
 use names::{ErrorCode, ExpandedName, Name, QualName};
 use scopes::{Binding, Lookup, ScopeTable};
-use std::alloc::Global;
+use std::alloc::{AllocError, Global};
+use std::fmt;
 
 // A listing has a tag on one line, so all declarations of an element stand on the line of its tag.
 #[derive(Clone, Copy)]
@@ -13,13 +14,8 @@ pub(crate) struct OpenElement {
 
 // Where the innermost of the open elements with this name stands, counted from the outermost.
 pub(crate) fn innermost(open: &[OpenElement], name: ExpandedName) -> Option<usize> {
-    let mut found = None;
-    for (i, element) in open.iter().enumerate() {
-        if element.name.expanded() == name {
-            found = Some(i);
-        }
-    }
-    found
+    open.iter()
+        .rposition(|element| element.name.expanded() == name)
 }
 
 // What has the name.
@@ -30,11 +26,44 @@ pub(crate) enum Item {
     Attribute,
 }
 
-// Why a name is in a namespace, or in none.
+impl From<ListedKind> for Item {
+    fn from(kind: ListedKind) -> Item {
+        match kind {
+            ListedKind::Start | ListedKind::Empty => Item::Element,
+            ListedKind::End => Item::EndTag,
+        }
+    }
+}
+
+impl fmt::Display for Item {
+    fn fmt<W: fmt::Write>(&self, f: &mut fmt::Formatter<W>) -> fmt::Result {
+        f.write_str(match self {
+            Item::Element => "element",
+            Item::EndTag => "end tag",
+            Item::Attribute => "attribute",
+        })
+    }
+}
+
+// Where the namespace of a name comes from.
 #[derive(Clone, Copy)]
 pub(crate) enum Origin {
-    Declared { ns: Name, line: usize },
-    BuiltIn(Name),
+    Declared { line: usize },
+    BuiltIn,
+}
+
+impl fmt::Display for Origin {
+    fn fmt<W: fmt::Write>(&self, f: &mut fmt::Formatter<W>) -> fmt::Result {
+        match self {
+            Origin::Declared { line } => write!(f, "declared on line {line}"),
+            Origin::BuiltIn => f.write_str("built in"),
+        }
+    }
+}
+
+// Why a name has no namespace.
+#[derive(Clone, Copy)]
+pub(crate) enum Absence {
     Undeclared { line: usize },
     Unbound,
     NoDefault,
@@ -46,7 +75,7 @@ pub(crate) enum Origin {
 pub(crate) struct Resolved {
     pub(crate) item: Item,
     pub(crate) name: QualName,
-    pub(crate) origin: Origin,
+    pub(crate) origin: Result<Origin, Absence>,
     pub(crate) error: Option<ErrorCode>,
 }
 
@@ -59,63 +88,62 @@ pub(crate) struct View<'a> {
     pub(crate) line: usize,
 }
 
-// The tag itself has the row after those of the open elements.
-fn origin_of(view: View<'_>, lookup: Lookup) -> Origin {
-    match lookup {
-        Lookup::Declared(found) => {
-            let line = match view.open.get(found.row) {
-                Some(element) => element.line,
-                None => view.line,
-            };
-            match found.ns {
-                Some(ns) => Origin::Declared { ns, line },
-                None => Origin::Undeclared { line },
+impl View<'_> {
+    // The tag itself has the row after those of the open elements.
+    fn line_of(self, row: usize) -> usize {
+        self.open.get(row).map_or(self.line, |element| element.line)
+    }
+
+    fn origin_of(self, lookup: Lookup) -> Result<Origin, Absence> {
+        match lookup {
+            Lookup::Declared(found) => {
+                let line = self.line_of(found.row);
+                match found.ns {
+                    Some(_) => Ok(Origin::Declared { line }),
+                    None => Err(Absence::Undeclared { line }),
+                }
             }
+            Lookup::BuiltIn(ns) if ns == Name::EMPTY => Err(Absence::NoDefault),
+            Lookup::BuiltIn(_) => Ok(Origin::BuiltIn),
+            Lookup::Unbound => Err(Absence::Unbound),
         }
-        Lookup::BuiltIn(ns) if ns == Name::EMPTY => Origin::NoDefault,
-        Lookup::BuiltIn(ns) => Origin::BuiltIn(ns),
-        Lookup::Unbound => Origin::Unbound,
     }
-}
 
-pub(crate) fn resolve(view: View<'_>, item: Item, name: QualName) -> Resolved {
-    let lookup = view.scopes.find_uri(view.bindings, name.prefix);
-    let QualName {
-        prefix,
-        ns: _,
-        local,
-    } = name;
-    let ns = lookup.namespace();
-    Resolved {
-        item,
-        name: QualName { prefix, ns, local },
-        origin: origin_of(view, lookup),
-        error: lookup.error(prefix),
+    pub(crate) fn resolve(self, item: Item, name: QualName) -> Resolved {
+        let lookup = self.scopes.find_uri(self.bindings, name.prefix);
+        let ns = lookup.namespace();
+        Resolved {
+            item,
+            name: QualName { ns, ..name },
+            origin: self.origin_of(lookup),
+            error: lookup.error(name.prefix),
+        }
     }
-}
 
-// An attribute without a prefix has no namespace, and is not looked up.
-pub(crate) fn resolve_attributes(
-    heap: Global,
-    view: View<'_>,
-    attrs: &[QualName],
-) -> Result<Vec<Resolved>, Stop> {
-    let mut all = Vec::new(heap);
-    for name in attrs {
+    // An attribute without a prefix has no namespace, and is not looked up.
+    fn resolve_attribute(self, name: QualName) -> Resolved {
         let item = Item::Attribute;
-        let name = *name;
-        let resolved = match name.prefix {
-            Some(_) => resolve(view, item, name),
+        match name.prefix {
+            Some(_) => self.resolve(item, name),
             None => {
                 Resolved {
                     item,
                     name,
-                    origin: Origin::NoPrefix,
+                    origin: Err(Absence::NoPrefix),
                     error: None,
                 }
             }
-        };
-        all.push(resolved)?;
+        }
     }
-    Ok(all)
+
+    pub(crate) fn resolve_attributes(
+        self,
+        heap: Global,
+        attrs: &[QualName],
+    ) -> Result<Vec<Resolved>, AllocError> {
+        attrs
+            .iter()
+            .map(|name| self.resolve_attribute(*name))
+            .collect(heap)
+    }
 }

@@ -1,30 +1,65 @@
 // Reads a listing token by token, and prints each tag with the namespaces of its names.
-use crate::element::{Item, OpenElement, Resolved, View, innermost, resolve, resolve_attributes};
+use crate::element::{Item, OpenElement, Resolved, View, innermost};
 use crate::stop::Stop;
-use crate::tag::{Tag, Weighed, enter_tag, weigh_all};
+use crate::tag::{Declared, Tag, Weighed};
 use crate::tally::Tally;
-use crate::write::{write_closed, write_declaration, write_head, write_resolved};
-use listing::{ListedKind, ListedTag, ListedToken, read_token};
+use crate::texts::{NameText, Named};
+use crate::words::kind_word;
+use crate::write::Closed;
+use listing::{ListedKind, ListedTag, ListedToken, lines_of, read_token};
 use names::{NameTable, QualName};
 use scopes::{Binding, MOST_BINDINGS, ScopeFault, ScopeTable};
 use std::alloc::{AllocError, Global};
+use std::fmt;
 
 // Before the root element, inside it, and after the document has ended on a line.
-#[derive(Clone, Copy)]
+#[derive(Clone, Copy, PartialEq, Eq)]
 enum Phase {
     Start,
     Main,
     End { line: usize },
 }
 
-// The table has a row for each open element.
+impl Phase {
+    // The end of the file ends the document, unless it has ended before.
+    fn after_end_of_file(self, line: usize) -> Phase {
+        match self {
+            Phase::Start | Phase::Main => Phase::End { line },
+            Phase::End { .. } => self,
+        }
+    }
+
+    // An end tag needs an open element, and after its end a document has no tags.
+    fn binds(self, kind: ListedKind) -> bool {
+        match self {
+            Phase::Start => kind != ListedKind::End,
+            Phase::Main => true,
+            Phase::End { .. } => false,
+        }
+    }
+}
+
+impl fmt::Display for Phase {
+    fn fmt<W: fmt::Write>(&self, f: &mut fmt::Formatter<W>) -> fmt::Result {
+        match self {
+            Phase::Start => f.write_str("the root element has not begun"),
+            Phase::Main => f.write_str("the root element is open"),
+            Phase::End { line } => write!(f, "the document has ended on line {line}"),
+        }
+    }
+}
+
+// The table has a row for each open element, and the line is that of the token at hand.
 #[derive(Drop)]
 pub(crate) struct Reading {
-    pub(crate) names: NameTable,
+    heap: Global,
+    line: usize,
+    names: NameTable,
     scopes: ScopeTable,
     open: Vec<OpenElement>,
     phase: Phase,
-    pub(crate) tally: Tally,
+    tally: Tally,
+    out: String,
 }
 
 // The table after the tag. Only a start tag's bindings stay, but those of every tag have to find room.
@@ -33,86 +68,58 @@ fn scopes_after(
     kind: ListedKind,
     bindings: &[Binding],
 ) -> Result<ScopeTable, ScopeFault> {
-    let mut after = match kind {
-        ListedKind::Start => scopes.open_row()?,
-        ListedKind::Empty | ListedKind::End => scopes,
-    };
+    let starts = kind == ListedKind::Start;
+    let after = if starts { scopes.open_row()? } else { scopes };
     if scopes.binding_count().saturating_add(bindings.len()) > MOST_BINDINGS {
         return Err(ScopeFault::TooManyBindings);
     }
-    if let ListedKind::Start = kind {
-        for binding in bindings {
-            after = after.add(*binding)?;
-        }
+    if !starts {
+        return Ok(after);
     }
-    Ok(after)
-}
-
-// The end of the file ends the document, unless it has ended before.
-fn after_end_of_file(phase: Phase, line: usize) -> Phase {
-    match phase {
-        Phase::Start | Phase::Main => Phase::End { line },
-        Phase::End { .. } => phase,
-    }
-}
-
-// An end tag needs an open element, and after its end a document has no tags.
-fn is_bound(phase: Phase, kind: ListedKind) -> bool {
-    match (phase, kind) {
-        (Phase::End { .. }, _) => false,
-        (Phase::Start, ListedKind::End) => false,
-        (Phase::Start | Phase::Main, _) => true,
-    }
-}
-
-// Says that something does not come about, and why.
-fn write_phase(out: &mut String, what: &str, phase: Phase) -> Result<(), AllocError> {
-    match phase {
-        Phase::Start => writeln!(out, "  {what}: the root element has not begun"),
-        Phase::Main => writeln!(out, "  {what}"),
-        Phase::End { line } => writeln!(out, "  {what}: the document has ended on line {line}"),
-    }
+    bindings
+        .iter()
+        .try_fold(after, |table, binding| table.add(*binding))
 }
 
 impl Reading {
     pub(crate) fn new(heap: Global) -> Result<Reading, AllocError> {
         Ok(Reading {
+            heap,
+            line: 0,
             names: NameTable::new(heap)?,
             scopes: ScopeTable::new(),
             open: Vec::new(heap),
             phase: Phase::Start,
             tally: Tally::new(heap),
+            out: String::new(heap),
         })
     }
 
-    pub(crate) fn read_line(
-        &mut self,
-        heap: Global,
-        line: usize,
-        text: &[u8],
-        out: &mut String,
-    ) -> Result<(), Stop> {
-        match read_token(heap, text)? {
-            Some(token) => self.take_token(heap, line, token, out),
+    // Reads to the end of the listing, or to the first line that stops the reading.
+    pub(crate) fn read_listing(&mut self, listing: &[u8]) -> Result<(), Stop> {
+        for text in lines_of(listing) {
+            self.read_line(text)?;
+        }
+        Ok(())
+    }
+
+    fn read_line(&mut self, text: &[u8]) -> Result<(), Stop> {
+        self.line = self.line.saturating_add(1);
+        match read_token(self.heap, text)? {
+            Some(token) => self.take_token(token),
             None => Ok(()),
         }
     }
 
-    fn take_token(
-        &mut self,
-        heap: Global,
-        line: usize,
-        token: ListedToken,
-        out: &mut String,
-    ) -> Result<(), Stop> {
+    fn take_token(&mut self, token: ListedToken) -> Result<(), Stop> {
         match token {
-            ListedToken::Tag(tag) => self.take_tag(heap, line, tag, out)?,
-            ListedToken::ShortTag => self.take_short(line, out)?,
-            ListedToken::EndOfFile => self.phase = after_end_of_file(self.phase, line),
+            ListedToken::Tag(tag) => self.take_tag(tag)?,
+            ListedToken::ShortTag => self.take_short()?,
+            ListedToken::EndOfFile => self.phase = self.phase.after_end_of_file(self.line),
             ListedToken::NullCharacter => {
                 // Inside the root element a null character ends the document.
-                if let Phase::Main = self.phase {
-                    self.phase = Phase::End { line };
+                if self.phase == Phase::Main {
+                    self.phase = Phase::End { line: self.line };
                 }
             }
             _ => {}
@@ -120,88 +127,68 @@ impl Reading {
         Ok(())
     }
 
-    fn take_tag(
-        &mut self,
-        heap: Global,
-        line: usize,
-        listed: ListedTag,
-        out: &mut String,
-    ) -> Result<(), Stop> {
-        write_head(out, line, &listed)?;
+    fn take_tag(&mut self, listed: ListedTag) -> Result<(), Stop> {
+        let line = self.line;
+        let kind = kind_word(listed.kind);
+        let name = NameText::from(&listed.name);
+        writeln!(self.out, "line {line}: {kind} {name}")?;
         self.tally.count_tag();
-        let tag = enter_tag(heap, &mut self.names, listed)?;
-        if is_bound(self.phase, tag.kind) {
-            self.bind_tag(heap, line, tag, out)
-        } else {
-            write_phase(out, "not bound", self.phase)?;
-            Ok(())
+        let tag = Tag::enter(self.heap, &mut self.names, listed)?;
+        if self.phase.binds(tag.kind) {
+            return self.bind_tag(tag);
         }
+        let phase = self.phase;
+        writeln!(self.out, "  not bound: {phase}")?;
+        Ok(())
     }
 
     // Everything that can refuse the tag comes before anything changes, but for the name table, which keeps what was
     // entered.
-    fn bind_tag(
-        &mut self,
-        heap: Global,
-        line: usize,
-        tag: Tag,
-        out: &mut String,
-    ) -> Result<(), Stop> {
-        let weighed = weigh_all(heap, &mut self.names, tag.declarations.as_slice())?;
-        let bindings = weighed.bindings.as_slice();
-        let scopes = scopes_after(self.scopes, tag.kind, bindings)?;
+    fn bind_tag(&mut self, tag: Tag) -> Result<(), Stop> {
+        let Tag {
+            kind,
+            name,
+            declarations,
+            attrs,
+        } = tag;
+        let declared = Declared::weigh_all(self.heap, &mut self.names, declarations)?;
+        let bindings = declared.bindings.as_slice();
+        let scopes = scopes_after(self.scopes, kind, bindings)?;
         let view = View {
             open: self.open.as_slice(),
             scopes: &self.scopes,
             bindings,
-            line,
+            line: self.line,
         };
-        let attrs = resolve_attributes(heap, view, tag.attrs.as_slice())?;
-        let item = match tag.kind {
-            ListedKind::Start | ListedKind::Empty => Item::Element,
-            ListedKind::End => Item::EndTag,
-        };
-        let own = resolve(view, item, tag.name);
-        self.print_declarations(&tag, &weighed, out)?;
-        self.print_names(line, attrs.as_slice(), out)?;
-        self.print_names(line, &[own], out)?;
+        let attrs = view.resolve_attributes(self.heap, attrs.as_slice())?;
+        let own = view.resolve(Item::from(kind), name);
+        self.print_declarations(declared.weighed.as_slice())?;
+        self.print_names(attrs.as_slice())?;
+        self.print_names(&[own])?;
         self.scopes = scopes;
-        self.finish_tag(line, tag.kind, own.name, out)
+        self.finish_tag(kind, own.name)
     }
 
-    fn print_declarations(
-        &mut self,
-        tag: &Tag,
-        weighed: &Weighed,
-        out: &mut String,
-    ) -> Result<(), Stop> {
-        for (declaration, verdict) in tag.declarations.iter().zip(weighed.verdicts.iter()) {
-            write_declaration(out, &self.names, declaration, *verdict)?;
-            self.tally.note_error(verdict.error())?;
+    fn print_declarations(&mut self, weighed: &[Weighed]) -> Result<(), AllocError> {
+        for declaration in weighed {
+            let shown = Named::new(&self.names, declaration);
+            writeln!(self.out, "  {shown}")?;
+            self.tally.note_error(declaration.verdict.error())?;
         }
         Ok(())
     }
 
-    fn print_names(
-        &mut self,
-        line: usize,
-        resolved: &[Resolved],
-        out: &mut String,
-    ) -> Result<(), Stop> {
+    fn print_names(&mut self, resolved: &[Resolved]) -> Result<(), AllocError> {
         for name in resolved {
-            write_resolved(out, &self.names, *name)?;
-            self.tally.note_name(line, *name)?;
+            let shown = Named::new(&self.names, *name);
+            writeln!(self.out, "  {shown}")?;
+            self.tally.note_name(self.line, *name)?;
         }
         Ok(())
     }
 
-    fn finish_tag(
-        &mut self,
-        line: usize,
-        kind: ListedKind,
-        name: QualName,
-        out: &mut String,
-    ) -> Result<(), Stop> {
+    fn finish_tag(&mut self, kind: ListedKind, name: QualName) -> Result<(), Stop> {
+        let line = self.line;
         self.tally.count_bound(kind);
         match kind {
             ListedKind::Start => {
@@ -211,45 +198,75 @@ impl Reading {
             }
             ListedKind::Empty => {
                 // An empty tag as the root is the whole document.
-                if let Phase::Start = self.phase {
+                if self.phase == Phase::Start {
                     self.phase = Phase::End { line };
                 }
                 Ok(())
             }
             ListedKind::End => {
-                let at = innermost(self.open.as_slice(), name.expanded());
-                self.close_from(at, line, out)
+                let place = innermost(self.open.as_slice(), name.expanded());
+                self.close_from(place)
             }
         }
     }
 
-    fn take_short(&mut self, line: usize, out: &mut String) -> Result<(), Stop> {
-        writeln!(out, "line {line}: short")?;
-        let last = self.open.len().checked_sub(1);
-        match self.phase {
-            Phase::Main => self.close_from(last, line, out),
-            Phase::Start | Phase::End { .. } => {
-                write_phase(out, "closes nothing", self.phase)?;
-                Ok(())
-            }
+    fn take_short(&mut self) -> Result<(), Stop> {
+        let line = self.line;
+        writeln!(self.out, "line {line}: short")?;
+        let phase = self.phase;
+        if phase == Phase::Main {
+            let innermost = self.open.len().checked_sub(1);
+            return self.close_from(innermost);
         }
+        writeln!(self.out, "  closes nothing: {phase}")?;
+        Ok(())
     }
 
     // Closes the open element at a place, and all inside it. There is no place where no element was found.
-    fn close_from(&mut self, at: Option<usize>, line: usize, out: &mut String) -> Result<(), Stop> {
-        let Some(place) = at else {
-            out.push_str("  closes nothing: no open element has this name\n")?;
+    fn close_from(&mut self, place: Option<usize>) -> Result<(), Stop> {
+        let Some(place) = place else {
+            self.out
+                .push_str("  closes nothing: no open element has this name\n")?;
             return Ok(());
         };
+        if let Some([element, inside @ ..]) = self.open.get(place..) {
+            let closed = Closed {
+                element: *element,
+                inside: inside.len(),
+            };
+            let shown = Named::new(&self.names, closed);
+            writeln!(self.out, "  {shown}")?;
+        }
         let count = self.open.len();
-        write_closed(out, &self.names, self.open.as_slice(), place)?;
         self.open.truncate(place);
         for _ in place..count {
             self.scopes = self.scopes.close_row()?;
         }
         if self.open.is_empty() {
-            self.phase = Phase::End { line };
+            self.phase = Phase::End { line: self.line };
         }
         Ok(())
+    }
+
+    // A malformed line has nothing printed yet, and a refused tag its first line.
+    pub(crate) fn print_stop(&mut self, stop: Stop) -> Result<(), AllocError> {
+        let line = self.line;
+        match stop {
+            Stop::Malformed(_) => writeln!(self.out, "line {line}: {stop}; reading ends here"),
+            _ => writeln!(self.out, "  {stop}; reading ends here"),
+        }
+    }
+
+    // All that was printed, with the summary.
+    pub(crate) fn finish(self) -> Result<String, AllocError> {
+        let Reading {
+            names,
+            tally,
+            mut out,
+            ..
+        } = self;
+        let summary = Named::new(&names, &tally);
+        write!(out, "{summary}")?;
+        Ok(out)
     }
 }

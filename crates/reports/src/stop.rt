@@ -1,36 +1,36 @@
 // Why a reading ends before its listing does, with the plain words for refusals.
 use listing::{Expected, ListingFault};
-use names::NameFault;
+use names::{NameFault, Refusal};
 use scopes::ScopeFault;
 use std::alloc::{AllocError, AllocFailed};
+use std::fmt;
 
 // Lack of memory ends the whole report. The others are printed, and what was printed before stays.
 #[derive(Clone, Copy)]
 pub(crate) enum Stop {
-    Memory,
+    Memory(AllocError),
     Malformed(Expected),
-    Refusal { number: u8, words: &'static str },
-    // A call that a reading never makes was refused.
-    Mistake(&'static str),
+    Names(NameFault),
+    Scopes(ScopeFault),
 }
 
 impl<T: Drop> From<AllocFailed<T>> for Stop {
-    fn from(_e: AllocFailed<T>) -> Stop {
-        Stop::Memory
+    fn from(failed: AllocFailed<T>) -> Stop {
+        Stop::Memory(AllocError::from(failed))
     }
 }
 
 // A report is written to memory, and a lack of it is all that can go wrong there.
 impl From<AllocError> for Stop {
-    fn from(_e: AllocError) -> Stop {
-        Stop::Memory
+    fn from(e: AllocError) -> Stop {
+        Stop::Memory(e)
     }
 }
 
 impl From<ListingFault> for Stop {
     fn from(fault: ListingFault) -> Stop {
         match fault {
-            ListingFault::Memory => Stop::Memory,
+            ListingFault::Memory => Stop::Memory(AllocError),
             ListingFault::Expected(expected) => Stop::Malformed(expected),
         }
     }
@@ -38,30 +38,53 @@ impl From<ListingFault> for Stop {
 
 impl From<NameFault> for Stop {
     fn from(fault: NameFault) -> Stop {
-        let words = match fault {
-            NameFault::TooManyNames { .. } => "there would be more than 512 different names",
-            NameFault::TooManyBytes { .. } => {
-                "the different names would have more than 16384 bytes together"
-            }
-        };
-        Stop::Refusal {
-            number: fault.refusal().number,
-            words,
-        }
+        Stop::Names(fault)
     }
 }
 
 impl From<ScopeFault> for Stop {
     fn from(fault: ScopeFault) -> Stop {
-        let words = match fault {
-            ScopeFault::TooManyRows => "there would be more than 128 open elements",
-            ScopeFault::TooManyBindings => "there would be more than 256 bindings at once",
-            ScopeFault::Reserved => "xml or xmlns was to be bound",
-            ScopeFault::NoOpenRow => "there is no open element",
-        };
-        match fault.number() {
-            Some(number) => Stop::Refusal { number, words },
-            None => Stop::Mistake(words),
+        Stop::Scopes(fault)
+    }
+}
+
+// The faults are the libraries' types, which leave the words to the program.
+fn name_words(fault: NameFault) -> &'static str {
+    match fault {
+        NameFault::TooManyNames { .. } => "there would be more than 512 different names",
+        NameFault::TooManyBytes { .. } => {
+            "the different names would have more than 16384 bytes together"
+        }
+    }
+}
+
+fn scope_words(fault: ScopeFault) -> &'static str {
+    match fault {
+        ScopeFault::TooManyRows => "there would be more than 128 open elements",
+        ScopeFault::TooManyBindings => "there would be more than 256 bindings at once",
+        ScopeFault::Reserved => "xml or xmlns was to be bound",
+        ScopeFault::NoOpenRow => "there is no open element",
+    }
+}
+
+impl fmt::Display for Stop {
+    fn fmt<W: fmt::Write>(&self, f: &mut fmt::Formatter<W>) -> fmt::Result {
+        match *self {
+            Stop::Memory(_) => f.write_str("out of memory"),
+            Stop::Malformed(expected) => write!(f, "malformed, expected {expected}"),
+            Stop::Names(fault) => {
+                let number = Refusal::from(fault).code.number();
+                let words = name_words(fault);
+                write!(f, "refused, number {number}: {words}")
+            }
+            Stop::Scopes(fault) => {
+                let words = scope_words(fault);
+                match fault.number() {
+                    Some(number) => write!(f, "refused, number {number}: {words}"),
+                    // A call that a reading never makes was refused.
+                    None => write!(f, "a mistake of this program: {words}"),
+                }
+            }
         }
     }
 }

@@ -22,95 +22,101 @@ pub(crate) struct Tag {
 }
 
 fn enter_name(names: &mut NameTable, name: &ListedName) -> Result<QualName, Stop> {
-    let prefix = match &name.prefix {
-        Some(prefix) => Some(names.enter(prefix.as_slice())?),
-        None => None,
-    };
-    let local = names.enter(name.local.as_slice())?;
+    let prefix = name.prefix.as_deref();
     Ok(QualName {
-        prefix,
+        prefix: prefix.map(|prefix| names.enter(prefix)).transpose()?,
         ns: Name::EMPTY,
-        local,
+        local: names.enter(name.local.as_slice())?,
     })
 }
 
-fn enter_attribute(
-    names: &mut NameTable,
-    attr: ListedAttribute,
-    tag: &mut Tag,
-) -> Result<(), Stop> {
-    let name = enter_name(names, &attr.name)?;
-    let ListedAttribute { name: _, value } = attr;
-    match role_of(name) {
-        Role::Declares(prefix) => {
-            tag.declarations.push(Declaration {
-                name,
-                prefix,
-                value,
-            })?;
+impl Tag {
+    // Enters the names of a tag as they come: its own, and then those of each attribute.
+    pub(crate) fn enter(
+        heap: Global,
+        names: &mut NameTable,
+        listed: ListedTag,
+    ) -> Result<Tag, Stop> {
+        let ListedTag { kind, name, attrs } = listed;
+        let mut tag = Tag {
+            kind,
+            name: enter_name(names, &name)?,
+            declarations: Vec::new(heap),
+            attrs: Vec::new(heap),
+        };
+        for attr in attrs {
+            tag.enter_attribute(names, attr)?;
         }
-        Role::Ordinary => tag.attrs.push(name)?,
+        Ok(tag)
     }
-    Ok(())
+
+    fn enter_attribute(
+        &mut self,
+        names: &mut NameTable,
+        attr: ListedAttribute,
+    ) -> Result<(), Stop> {
+        let name = enter_name(names, &attr.name)?;
+        let ListedAttribute { name: _, value } = attr;
+        match role_of(name) {
+            Role::Declares(prefix) => {
+                self.declarations.push(Declaration {
+                    name,
+                    prefix,
+                    value,
+                })?;
+            }
+            Role::Ordinary => self.attrs.push(name)?,
+        }
+        Ok(())
+    }
 }
 
-// Enters the names of a tag as they come: its own, and then those of each attribute.
-pub(crate) fn enter_tag(
-    heap: Global,
-    names: &mut NameTable,
-    listed: ListedTag,
-) -> Result<Tag, Stop> {
-    let ListedTag { kind, name, attrs } = listed;
-    let mut tag = Tag {
-        kind,
-        name: enter_name(names, &name)?,
-        declarations: Vec::new(heap),
-        attrs: Vec::new(heap),
-    };
-    for attr in attrs {
-        enter_attribute(names, attr, &mut tag)?;
-    }
-    Ok(tag)
-}
-
-// A verdict for each declaration, and the bindings that come of them.
+// A declaration and what comes of it.
 #[derive(Drop)]
 pub(crate) struct Weighed {
-    pub(crate) verdicts: Vec<Verdict>,
+    pub(crate) declaration: Declaration,
+    pub(crate) verdict: Verdict,
+}
+
+// The declarations of a tag, and the bindings that come of them.
+#[derive(Drop)]
+pub(crate) struct Declared {
+    pub(crate) weighed: Vec<Weighed>,
     pub(crate) bindings: Vec<Binding>,
 }
 
-fn weigh_one(
-    names: &mut NameTable,
-    declaration: &Declaration,
-    weighed: &mut Weighed,
-) -> Result<(), Stop> {
-    let prefix = declaration.prefix;
-    let value = declaration.value.as_slice();
-    let verdict = weigh(weighed.bindings.as_slice(), prefix, value);
-    match verdict {
-        Verdict::Binds => {
-            let ns = Some(names.enter(value)?);
-            weighed.bindings.push(Binding { prefix, ns })?;
+impl Declared {
+    pub(crate) fn weigh_all(
+        heap: Global,
+        names: &mut NameTable,
+        declarations: Vec<Declaration>,
+    ) -> Result<Declared, Stop> {
+        let mut declared = Declared {
+            weighed: Vec::new(heap),
+            bindings: Vec::new(heap),
+        };
+        for declaration in declarations {
+            declared.weigh(names, declaration)?;
         }
-        Verdict::Undeclares => weighed.bindings.push(Binding { prefix, ns: None })?,
-        Verdict::NoEffect | Verdict::Rejected(_) => {}
+        Ok(declared)
     }
-    weighed.verdicts.push(verdict)?;
-    Ok(())
-}
 
-pub(crate) fn weigh_all(
-    heap: Global,
-    names: &mut NameTable,
-    declarations: &[Declaration],
-) -> Result<Weighed, Stop> {
-    let mut weighed = Weighed {
-        verdicts: Vec::new(heap),
-        bindings: Vec::new(heap),
-    };
-    for declaration in declarations {
-        weigh_one(names, declaration, &mut weighed)?;
+    fn weigh(&mut self, names: &mut NameTable, declaration: Declaration) -> Result<(), Stop> {
+        let prefix = declaration.prefix;
+        let value = declaration.value.as_slice();
+        let verdict = weigh(self.bindings.as_slice(), prefix, value);
+        match verdict {
+            Verdict::Binds => {
+                let ns = Some(names.enter(value)?);
+                self.bindings.push(Binding { prefix, ns })?;
+            }
+            Verdict::Undeclares => self.bindings.push(Binding { prefix, ns: None })?,
+            Verdict::NoEffect | Verdict::Rejected(_) => {}
+        }
+        self.weighed.push(Weighed {
+            declaration,
+            verdict,
+        })?;
+        Ok(())
     }
-    Ok(weighed)
 }

@@ -1,18 +1,20 @@
 // What a reading counts, for the summary.
-use crate::element::{Origin, Resolved};
-use crate::stop::Stop;
-use crate::texts::name_text;
+use crate::element::{Absence, Item, Resolved};
+use crate::texts::Named;
 use crate::words::error_words;
-use crate::write::{item_word, write_reason};
+use crate::write::Reason;
 use listing::ListedKind;
-use names::{ErrorCode, NameTable};
+use names::{ErrorCode, QualName};
 use std::alloc::{AllocError, Global};
+use std::fmt;
 
 // A name that landed in no namespace.
 #[derive(Clone, Copy)]
 struct Stray {
     line: usize,
-    name: Resolved,
+    item: Item,
+    name: QualName,
+    absence: Absence,
 }
 
 #[derive(Drop)]
@@ -22,25 +24,6 @@ pub(crate) struct Tally {
     elements: usize,
     strays: Vec<Stray>,
     errors: Vec<ErrorCode>,
-}
-
-// The errors that a declaration or a look-up can have.
-const KINDS: [ErrorCode; 5] = [
-    ErrorCode::XmlnsUriDeclared,
-    ErrorCode::XmlPrefixDeclared,
-    ErrorCode::XmlnsPrefixDeclared,
-    ErrorCode::DeclaredTwice,
-    ErrorCode::UnboundPrefix,
-];
-
-fn count_of(errors: &[ErrorCode], code: ErrorCode) -> usize {
-    let mut count = 0usize;
-    for error in errors {
-        if error.number() == code.number() {
-            count = count.saturating_add(1);
-        }
-    }
-    count
 }
 
 impl Tally {
@@ -60,15 +43,12 @@ impl Tally {
 
     pub(crate) fn count_bound(&mut self, kind: ListedKind) {
         self.bound = self.bound.saturating_add(1);
-        match kind {
-            ListedKind::Start | ListedKind::Empty => {
-                self.elements = self.elements.saturating_add(1);
-            }
-            ListedKind::End => {}
+        if kind != ListedKind::End {
+            self.elements = self.elements.saturating_add(1);
         }
     }
 
-    pub(crate) fn note_error(&mut self, error: Option<ErrorCode>) -> Result<(), Stop> {
+    pub(crate) fn note_error(&mut self, error: Option<ErrorCode>) -> Result<(), AllocError> {
         if let Some(code) = error {
             self.errors.push(code)?;
         }
@@ -76,62 +56,103 @@ impl Tally {
     }
 
     // An attribute without a prefix is meant to have no namespace, so it is no stray.
-    pub(crate) fn note_name(&mut self, line: usize, name: Resolved) -> Result<(), Stop> {
-        match name.origin {
-            Origin::Undeclared { .. } | Origin::Unbound | Origin::NoDefault => {
-                self.strays.push(Stray { line, name })?;
+    pub(crate) fn note_name(&mut self, line: usize, resolved: Resolved) -> Result<(), AllocError> {
+        let Resolved {
+            item,
+            name,
+            origin,
+            error,
+        } = resolved;
+        match origin {
+            Ok(_) | Err(Absence::NoPrefix) => {}
+            Err(absence) => {
+                self.strays.push(Stray {
+                    line,
+                    item,
+                    name,
+                    absence,
+                })?;
             }
-            Origin::Declared { .. } | Origin::BuiltIn(_) | Origin::NoPrefix => {}
         }
-        self.note_error(name.error)
+        self.note_error(error)
     }
+}
 
-    fn write_strays(&self, out: &mut String, names: &NameTable) -> Result<(), AllocError> {
-        out.push_str("  names in no namespace:\n")?;
-        if self.strays.is_empty() {
-            out.push_str("    none\n")?;
+impl fmt::Display for Named<'_, Stray> {
+    fn fmt<W: fmt::Write>(&self, f: &mut fmt::Formatter<W>) -> fmt::Result {
+        let Stray {
+            line,
+            item,
+            name,
+            absence,
+        } = self.value;
+        let prefix = name.prefix;
+        let name = self.with(name);
+        let reason = self.with(Reason { prefix, absence });
+        write!(f, "line {line}: {item} {name} ({reason})")
+    }
+}
+
+impl fmt::Display for Named<'_, &[Stray]> {
+    fn fmt<W: fmt::Write>(&self, f: &mut fmt::Formatter<W>) -> fmt::Result {
+        if self.value.is_empty() {
+            return f.write_str("    none\n");
         }
-        for stray in self.strays.iter() {
-            let line = stray.line;
-            let item = item_word(stray.name.item);
-            let name = name_text(names, stray.name.name);
-            write!(out, "    line {line}: {item} {name} (")?;
-            write_reason(out, names, stray.name)?;
-            out.push_str(")\n")?;
+        for stray in self.value {
+            let stray = self.with(*stray);
+            writeln!(f, "    {stray}")?;
         }
         Ok(())
     }
+}
 
-    fn write_errors(&self, out: &mut String) -> Result<(), AllocError> {
-        out.push_str("  errors:\n")?;
-        if self.errors.is_empty() {
-            out.push_str("    none\n")?;
+// The errors that a declaration or a look-up can have.
+const KINDS: [ErrorCode; 5] = [
+    ErrorCode::XmlnsUriDeclared,
+    ErrorCode::XmlPrefixDeclared,
+    ErrorCode::XmlnsPrefixDeclared,
+    ErrorCode::DeclaredTwice,
+    ErrorCode::UnboundPrefix,
+];
+
+// How often each error came.
+#[derive(Clone, Copy)]
+struct Errors<'a>(&'a [ErrorCode]);
+
+impl fmt::Display for Errors<'_> {
+    fn fmt<W: fmt::Write>(&self, f: &mut fmt::Formatter<W>) -> fmt::Result {
+        if self.0.is_empty() {
+            return f.write_str("    none\n");
         }
         for code in KINDS {
-            let count = count_of(self.errors.as_slice(), code);
+            let count = self.0.iter().filter(|error| **error == code).count();
             if count > 0 {
                 let number = code.number();
                 let words = error_words(code);
-                writeln!(out, "    {number}, {words}: {count}")?;
+                writeln!(f, "    {number}, {words}: {count}")?;
             }
         }
         Ok(())
     }
+}
 
-    pub(crate) fn write_summary(
-        &self,
-        out: &mut String,
-        names: &NameTable,
-    ) -> Result<(), AllocError> {
-        let tags = self.tags;
-        let bound = self.bound;
-        let elements = self.elements;
-        writeln!(out, "summary")?;
+impl fmt::Display for Named<'_, &Tally> {
+    fn fmt<W: fmt::Write>(&self, f: &mut fmt::Formatter<W>) -> fmt::Result {
+        let Tally {
+            tags,
+            bound,
+            elements,
+            strays,
+            errors,
+        } = self.value;
+        writeln!(f, "summary")?;
         writeln!(
-            out,
+            f,
             "  tags read: {tags}, bound: {bound}, elements: {elements}"
         )?;
-        self.write_strays(out, names)?;
-        self.write_errors(out)
+        let strays = self.with(strays.as_slice());
+        write!(f, "  names in no namespace:\n{strays}")?;
+        let errors = Errors(errors.as_slice());
+        write!(f, "  errors:\n{errors}")
     }
 }
