@@ -1,7 +1,7 @@
 // The program: what the arguments ask for goes to standard output, and what went wrong to standard error.
 #![tactic(auto)]
 
-use reports::{Command, HELP, Input, parse, scopes_report};
+use reports::{Command, HELP, Input, Usage, parse, scopes_report};
 use std::fmt::Display;
 use std::io::Read;
 use std::process::ExitCode;
@@ -17,11 +17,14 @@ fn say_fault(rt: &HostRuntime, what: &str, name: impl Display + Drop, fault: io:
     Failed
 }
 
+fn say_usage(rt: &HostRuntime, usage: Usage<'_>) -> Failed {
+    let _ = eprint!(rt; "{usage}");
+    Failed
+}
+
 fn print_text(rt: &HostRuntime, text: &str) -> Result<(), Failed> {
-    match rt.print(text) {
-        Ok(()) => Ok(()),
-        Err(e) => Err(say_fault(rt, "write", "to standard output", e)),
-    }
+    rt.print(text)
+        .map_err(|e| say_fault(rt, "write", "to standard output", e))
 }
 
 fn read_standard(rt: &HostRuntime) -> io::Result<Vec<u8>> {
@@ -35,20 +38,18 @@ fn read_input(rt: &HostRuntime, input: Input<'_>) -> Result<Vec<u8>, Failed> {
         Input::Standard => read_standard(rt),
         Input::File(file) => fs::read(rt, file),
     };
-    match read {
-        Ok(bytes) => Ok(bytes),
-        Err(e) => Err(say_fault(rt, "read", input, e)),
-    }
+    read.map_err(|e| say_fault(rt, "read", input, e))
 }
 
 fn print_scopes(rt: &HostRuntime, listing: &[u8]) -> Result<(), Failed> {
-    match scopes_report(rt.alloc(), listing) {
-        Ok(report) => {
-            print_text(rt, report.text.as_str())?;
-            if report.complete { Ok(()) } else { Err(Failed) }
-        }
-        Err(e) => Err(say_fault(rt, "make", "the report", io::Error::from(e))),
-    }
+    let report = scopes_report(rt.alloc(), listing).map_err(|e| say_fault(
+        rt,
+        "make",
+        "the report",
+        io::Error::from(e),
+    ))?;
+    print_text(rt, report.text.as_str())?;
+    if report.complete { Ok(()) } else { Err(Failed) }
 }
 
 fn run(rt: &HostRuntime, command: Command<'_>) -> Result<(), Failed> {
@@ -66,17 +67,9 @@ fn words_given(rt: &HostRuntime) -> io::Result<Vec<String>> {
 }
 
 fn run_words(rt: &HostRuntime) -> Result<(), Failed> {
-    let words = match words_given(rt) {
-        Ok(words) => words,
-        Err(e) => return Err(say_fault(rt, "read", "the arguments", e)),
-    };
-    match parse(words.as_slice()) {
-        Ok(command) => run(rt, command),
-        Err(usage) => {
-            let _ = eprint!(rt; "{usage}");
-            Err(Failed)
-        }
-    }
+    let words = words_given(rt).map_err(|e| say_fault(rt, "read", "the arguments", e))?;
+    let command = parse(words.as_slice()).map_err(|usage| say_usage(rt, usage))?;
+    run(rt, command)
 }
 
 // An error of `main` would be printed once more, so the status is returned.
