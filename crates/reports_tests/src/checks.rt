@@ -1,22 +1,22 @@
 // Renders a listing, and compares what is printed.
-use reports::scopes_report;
-use std::alloc::Global;
+use reports::{Report, scopes_report};
 use std::process::Abort;
 use std::test::Fail;
 
+// What stands before the summary, and the summary without its first line.
+fn parts(report: &Report) -> Result<(&str, &str), Fail> {
+    let parts = report.text.as_str().split_once("summary\n");
+    Ok(parts.ok_or("no summary")?)
+}
+
 // The lines before the summary. The listing is read to its end.
 pub(crate) fn check_tags(
-    rt: &impl Abort,
-    heap: Global,
+    rt: &(impl AllocGlobal + Abort),
     listing: &[u8],
     wanted: &str,
 ) -> Result<(), Fail> {
-    let report = scopes_report(heap, listing)?;
-    let (tags, _) = report
-        .text
-        .as_str()
-        .split_once("summary\n")
-        .ok_or("no summary")?;
+    let report = scopes_report(rt.alloc(), listing)?;
+    let (tags, _) = parts(&report)?;
     assert_eq!(rt; tags, wanted);
     assert!(rt; report.complete);
     Ok(())
@@ -24,17 +24,12 @@ pub(crate) fn check_tags(
 
 // The summary without its first line. The listing is read to its end.
 pub(crate) fn check_summary(
-    rt: &impl Abort,
-    heap: Global,
+    rt: &(impl AllocGlobal + Abort),
     listing: &[u8],
     wanted: &str,
 ) -> Result<(), Fail> {
-    let report = scopes_report(heap, listing)?;
-    let (_, summary) = report
-        .text
-        .as_str()
-        .split_once("summary\n")
-        .ok_or("no summary")?;
+    let report = scopes_report(rt.alloc(), listing)?;
+    let (_, summary) = parts(&report)?;
     assert_eq!(rt; summary, wanted);
     assert!(rt; report.complete);
     Ok(())
@@ -42,12 +37,11 @@ pub(crate) fn check_summary(
 
 // The whole of a report that stops before the end of the listing.
 pub(crate) fn check_stopped(
-    rt: &impl Abort,
-    heap: Global,
+    rt: &(impl AllocGlobal + Abort),
     listing: &[u8],
     wanted: &str,
 ) -> Result<(), Fail> {
-    let report = scopes_report(heap, listing)?;
+    let report = scopes_report(rt.alloc(), listing)?;
     assert_eq!(rt; report.text.as_str(), wanted);
     assert!(rt; !report.complete);
     Ok(())
@@ -55,13 +49,12 @@ pub(crate) fn check_stopped(
 
 // A report too long to be written out has this part.
 pub(crate) fn check_part(
-    rt: &impl Abort,
-    heap: Global,
-    listing: &[u8],
+    rt: &(impl AllocGlobal + Abort),
+    listing: &str,
     part: &str,
     complete: bool,
 ) -> Result<(), Fail> {
-    let report = scopes_report(heap, listing)?;
+    let report = scopes_report(rt.alloc(), listing.as_bytes())?;
     assert!(rt; report.text.as_str().contains(part), "{}", part);
     assert_eq!(rt; report.complete, complete);
     Ok(())

@@ -6,10 +6,10 @@ use std::test::Fail;
 
 // What is to be done, in a notation of the tests' own, or the message.
 fn asked(heap: Global, line: &str) -> Result<String, AllocError> {
-    let mut words = Vec::new(heap);
-    for word in line.split_whitespace() {
-        words.push(String::from_str(heap, word)?)?;
-    }
+    let words: Vec<String> = line
+        .split_whitespace()
+        .map(|word| String::from_str(heap, word))
+        .try_collect(heap)?;
     match parse(words.as_slice()) {
         Ok(Command::Help) => String::from_str(heap, "help"),
         Ok(Command::Scopes(input)) => format!(in heap; "scopes of {input}"),
@@ -17,9 +17,9 @@ fn asked(heap: Global, line: &str) -> Result<String, AllocError> {
     }
 }
 
-fn check_all(rt: &impl Abort, heap: Global, cases: &[(&str, &str)]) -> Result<(), Fail> {
+fn check_all(rt: &(impl AllocGlobal + Abort), cases: &[(&str, &str)]) -> Result<(), Fail> {
     for (line, wanted) in cases {
-        let found = asked(heap, line)?;
+        let found = asked(rt.alloc(), line)?;
         assert_eq!(rt; found.as_str(), *wanted);
     }
     Ok(())
@@ -29,7 +29,6 @@ fn check_all(rt: &impl Abort, heap: Global, cases: &[(&str, &str)]) -> Result<()
 fn known_words(rt: HostRuntime) -> Result<(), Fail> {
     check_all(
         &rt,
-        rt.alloc(),
         &[
             ("help", "help"),
             ("--help", "help"),
@@ -49,7 +48,6 @@ fn known_words(rt: HostRuntime) -> Result<(), Fail> {
 fn unknown_words(rt: HostRuntime) -> Result<(), Fail> {
     check_all(
         &rt,
-        rt.alloc(),
         &[
             ("", reports::HELP),
             (

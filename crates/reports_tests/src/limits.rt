@@ -3,40 +3,26 @@ use crate::checks::check_part;
 use std::alloc::{AllocError, Global};
 use std::test::Fail;
 
-fn nested(heap: Global, depth: usize) -> Result<String, AllocError> {
-    let mut listing = String::new(heap);
-    for _ in 0..depth {
-        listing.push_str("start a\n")?;
-    }
-    Ok(listing)
-}
-
 #[test]
 fn open_elements(rt: HostRuntime) -> Result<(), Fail> {
     let heap = rt.alloc();
-    let mut listing = nested(heap, 128)?;
+    let mut listing = "start a\n".repeat(heap, 128)?;
     listing.push_str("empty b\nend a\nstart b\n")?;
-    check_part(
-        &rt,
-        heap,
-        listing.as_bytes(),
-        "bound: 131, elements: 130\n",
-        true,
-    )?;
-    let listing = nested(heap, 129)?;
+    let fits = "bound: 131, elements: 130\n";
+    check_part(&rt, listing.as_str(), fits, true)?;
+    let listing = "start a\n".repeat(heap, 129)?;
     let refused = "line 129: start a
   refused, number 8: there would be more than 128 open elements; reading ends here
 summary
   tags read: 129, bound: 128, elements: 128
 ";
-    check_part(&rt, heap, listing.as_bytes(), refused, false)
+    check_part(&rt, listing.as_str(), refused, false)
 }
 
 fn declaring(heap: Global, tag: &str, count: usize) -> Result<String, AllocError> {
     let mut listing = String::from_str(heap, tag)?;
     for i in 0..count {
-        let declaration = format!(in heap; " xmlns:p{i}=\"u\"")?;
-        listing.push_str(declaration.as_str())?;
+        write!(listing, " xmlns:p{i}=\"u\"")?;
     }
     Ok(listing)
 }
@@ -53,15 +39,9 @@ summary
     for kind in ["start", "empty", "end"] {
         let tag = format!(in heap; "start r xmlns:=\"u\"\n{kind} a")?;
         let listing = declaring(heap, tag.as_str(), 252)?;
-        check_part(
-            &rt,
-            heap,
-            listing.as_bytes(),
-            "tags read: 2, bound: 2",
-            true,
-        )?;
+        check_part(&rt, listing.as_str(), "tags read: 2, bound: 2", true)?;
         let listing = declaring(heap, tag.as_str(), 253)?;
-        check_part(&rt, heap, listing.as_bytes(), refused, false)?;
+        check_part(&rt, listing.as_str(), refused, false)?;
     }
     Ok(())
 }
@@ -69,8 +49,7 @@ summary
 fn many_names(heap: Global, count: usize) -> Result<String, AllocError> {
     let mut listing = String::from_str(heap, "start r\n")?;
     for i in 0..count {
-        let tag = format!(in heap; "empty a{i}\n")?;
-        listing.push_str(tag.as_str())?;
+        writeln!(listing, "empty a{i}")?;
     }
     Ok(listing)
 }
@@ -78,44 +57,29 @@ fn many_names(heap: Global, count: usize) -> Result<String, AllocError> {
 // The table has room for 506 names besides the built-in ones.
 #[test]
 fn different_names(rt: HostRuntime) -> Result<(), Fail> {
-    let heap = rt.alloc();
-    let mut listing = many_names(heap, 505)?;
-    check_part(
-        &rt,
-        heap,
-        listing.as_bytes(),
-        "tags read: 506, bound: 506",
-        true,
-    )?;
+    let mut listing = many_names(rt.alloc(), 505)?;
+    check_part(&rt, listing.as_str(), "tags read: 506, bound: 506", true)?;
     listing.push_str("empty a0 xmlns:r=\"b\"\n")?;
     let refused = "line 507: empty a0
   refused, number 4: there would be more than 512 different names; reading ends here
 summary
   tags read: 507, bound: 506, elements: 506
 ";
-    check_part(&rt, heap, listing.as_bytes(), refused, false)
+    check_part(&rt, listing.as_str(), refused, false)
 }
 
 // Of the 16384 bytes the built-in names have 79.
 #[test]
 fn bytes_of_names(rt: HostRuntime) -> Result<(), Fail> {
     let heap = rt.alloc();
-    let mut listing = String::from_str(heap, "empty ")?;
-    for _ in 0..16305 {
-        listing.push('a')?;
-    }
-    check_part(
-        &rt,
-        heap,
-        listing.as_bytes(),
-        "tags read: 1, bound: 1",
-        true,
-    )?;
+    let name = "a".repeat(heap, 16305)?;
+    let mut listing = format!(in heap; "empty {name}")?;
+    check_part(&rt, listing.as_str(), "tags read: 1, bound: 1", true)?;
     listing.push('a')?;
     let refused = "
   refused, number 4: the different names would have more than 16384 bytes together; reading ends here
 summary
   tags read: 1, bound: 0, elements: 0
 ";
-    check_part(&rt, heap, listing.as_bytes(), refused, false)
+    check_part(&rt, listing.as_str(), refused, false)
 }

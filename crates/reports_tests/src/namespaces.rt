@@ -4,12 +4,10 @@ use std::test::Fail;
 
 #[test]
 fn unbound_and_undeclared(rt: HostRuntime) -> Result<(), Fail> {
-    let heap = rt.alloc();
     let listing =
         b"start a xmlns:b=\"u\"\nstart b:a xmlns:b=\"\" c:x=\"1\"\nend b:a xmlns:b=\"u\"\n";
     check_tags(
         &rt,
-        heap,
         listing,
         "line 1: start a
   xmlns:b=\"u\": binds b
@@ -26,7 +24,6 @@ line 3: end b:a
     )?;
     check_summary(
         &rt,
-        heap,
         listing,
         "  tags read: 3, bound: 3, elements: 2
   names in no namespace:
@@ -43,7 +40,6 @@ line 3: end b:a
 fn redeclared_default(rt: HostRuntime) -> Result<(), Fail> {
     check_tags(
         &rt,
-        rt.alloc(),
         b"start a xmlns=\"u\"\nempty b xmlns=\"v\"\nstart c xmlns=\"\"\nshort\nempty d\n",
         "line 1: start a
   xmlns=\"u\": binds the default namespace
@@ -66,7 +62,6 @@ line 5: empty d
 fn rejected_values(rt: HostRuntime) -> Result<(), Fail> {
     check_tags(
         &rt,
-        rt.alloc(),
         b"start a xmlns:b=\"http://www.w3.org/2000/xmlns/\" xmlns=\"http://www.w3.org/XML/1998/namespace\"\n",
         "line 1: start a
   xmlns:b=\"http://www.w3.org/2000/xmlns/\": error 1: nothing can be bound to the namespace of xmlns
@@ -79,12 +74,10 @@ fn rejected_values(rt: HostRuntime) -> Result<(), Fail> {
 // A rejected declaration is as if it were not there, and the first accepted one stays.
 #[test]
 fn rejected_prefixes(rt: HostRuntime) -> Result<(), Fail> {
-    let heap = rt.alloc();
     let listing =
         b"empty b:a xmlns:xml=\"u\" xmlns:xmlns=\"u\" xmlns:b=\"u\" xmlns:b=\"v\" xmlns:b=\"\"\n";
     check_tags(
         &rt,
-        heap,
         listing,
         "line 1: empty b:a
   xmlns:xml=\"u\": error 2: the prefix xml cannot be bound to another namespace, nor its namespace to another prefix
@@ -97,7 +90,6 @@ fn rejected_prefixes(rt: HostRuntime) -> Result<(), Fail> {
     )?;
     check_summary(
         &rt,
-        heap,
         listing,
         "  tags read: 1, bound: 1, elements: 1
   names in no namespace:
@@ -114,7 +106,6 @@ fn rejected_prefixes(rt: HostRuntime) -> Result<(), Fail> {
 fn built_in_prefixes(rt: HostRuntime) -> Result<(), Fail> {
     check_tags(
         &rt,
-        rt.alloc(),
         b"empty xmlns:a xmlns:xml=\"http://www.w3.org/XML/1998/namespace\" xml:lang=\"en\"\n",
         "line 1: empty xmlns:a
   xmlns:xml=\"http://www.w3.org/XML/1998/namespace\": no effect, xml is built in
@@ -129,7 +120,6 @@ fn built_in_prefixes(rt: HostRuntime) -> Result<(), Fail> {
 fn empty_prefix(rt: HostRuntime) -> Result<(), Fail> {
     check_tags(
         &rt,
-        rt.alloc(),
         b"start x :y=\"1\" xmlns:=\"u\"\nempty :x\nempty :x xmlns:=\"\"\nempty \\e\n",
         "line 1: start x
   xmlns:=\"u\": binds the empty prefix
@@ -150,7 +140,6 @@ line 4: empty \\e
 fn texts_are_escaped(rt: HostRuntime) -> Result<(), Fail> {
     check_tags(
         &rt,
-        rt.alloc(),
         b"empty \\n:\\xff xmlns:\\n=\"\\\"\\t\"\n",
         "line 1: empty \\n:\\xff
   xmlns:\\n=\"\\\"\\t\": binds \\n

@@ -6,7 +6,6 @@ use std::test::Fail;
 fn malformed_line(rt: HostRuntime) -> Result<(), Fail> {
     check_stopped(
         &rt,
-        rt.alloc(),
         b"start a\n\nstart b x=1\nend a\n",
         "line 1: start a
   element a: no namespace (no default namespace is declared)
@@ -26,7 +25,6 @@ summary
 fn nothing_to_read(rt: HostRuntime) -> Result<(), Fail> {
     check_summary(
         &rt,
-        rt.alloc(),
         b"# nothing\n",
         "  tags read: 0, bound: 0, elements: 0
   names in no namespace:
@@ -41,7 +39,6 @@ fn nothing_to_read(rt: HostRuntime) -> Result<(), Fail> {
 fn end_tag_closes_several(rt: HostRuntime) -> Result<(), Fail> {
     check_tags(
         &rt,
-        rt.alloc(),
         b"start a xmlns=\"u\"\nstart b\nstart a\nstart c\nend b\nshort\n",
         "line 1: start a
   xmlns=\"u\": binds the default namespace
@@ -66,7 +63,6 @@ line 6: short
 fn end_tag_closes_by_meaning(rt: HostRuntime) -> Result<(), Fail> {
     check_tags(
         &rt,
-        rt.alloc(),
         b"start a xmlns=\"u\"\nstart c:a xmlns:c=\"u\"\nstart b\nend a\n",
         "line 1: start a
   xmlns=\"u\": binds the default namespace
@@ -88,7 +84,6 @@ line 4: end a
 fn end_tag_closes_nothing(rt: HostRuntime) -> Result<(), Fail> {
     check_tags(
         &rt,
-        rt.alloc(),
         b"start a\nend a xmlns=\"u\"\nend a\n",
         "line 1: start a
   element a: no namespace (no default namespace is declared)
@@ -105,11 +100,9 @@ line 3: end a
 
 #[test]
 fn before_and_after_the_root(rt: HostRuntime) -> Result<(), Fail> {
-    let heap = rt.alloc();
     let listing = b"end a\nshort\nnull\nempty d:a\nstart b xmlns:d=\"u\"\nend b\nshort\n";
     check_tags(
         &rt,
-        heap,
         listing,
         "line 1: end a
   not bound: the root element has not begun
@@ -127,7 +120,6 @@ line 7: short
     )?;
     check_summary(
         &rt,
-        heap,
         listing,
         "  tags read: 4, bound: 1, elements: 1
   names in no namespace:
@@ -141,17 +133,15 @@ line 7: short
 // The end of the file ends the document anywhere, and a null character inside the root element.
 #[test]
 fn document_ends(rt: HostRuntime) -> Result<(), Fail> {
-    let heap = rt.alloc();
     let after_root = "line 1: start a
   element a: no namespace (no default namespace is declared)
 line 4: empty b
   not bound: the document has ended on line 2
 ";
-    check_tags(&rt, heap, b"start a\neof\neof\nempty b\n", after_root)?;
-    check_tags(&rt, heap, b"start a\nnull\neof\nempty b\n", after_root)?;
+    check_tags(&rt, b"start a\neof\neof\nempty b\n", after_root)?;
+    check_tags(&rt, b"start a\nnull\neof\nempty b\n", after_root)?;
     check_tags(
         &rt,
-        heap,
         b"eof\nempty b\n",
         "line 2: empty b
   not bound: the document has ended on line 1
