@@ -1,4 +1,6 @@
 // Open elements, and where the names of a tag find their namespaces.
+ghost use Rattle.std.specs.Prelude.{◌<◌, IfSome, length};
+
 use listing::ListedKind;
 use names::{ErrorCode, ExpandedName, Name, QualName};
 use scopes::{Binding, Lookup, ScopeTable};
@@ -13,8 +15,11 @@ pub(crate) struct OpenElement {
 }
 
 // Where the innermost of the open elements with this name stands, counted from the outermost.
-pub(crate) fn innermost(open: &[OpenElement], name: ExpandedName) -> Option<usize> {
-    open.iter()
+pub(crate) fn innermost(elements: &[OpenElement], name: ExpandedName) -> Option<usize>
+    ensures { IfSome result (λ i. i < length elements.now) }
+{
+    elements
+        .iter()
         .rposition(|element| element.name.expanded() == name)
 }
 
@@ -82,7 +87,7 @@ pub(crate) struct Resolved {
 // What a tag sees: the open elements, the bindings in force there and its own.
 #[derive(Clone, Copy)]
 pub(crate) struct View<'a> {
-    pub(crate) open: &'a [OpenElement],
+    pub(crate) elements: &'a [OpenElement],
     pub(crate) scopes: &'a ScopeTable,
     pub(crate) bindings: &'a [Binding],
     pub(crate) line: usize,
@@ -91,7 +96,9 @@ pub(crate) struct View<'a> {
 impl View<'_> {
     // The tag itself has the row after those of the open elements.
     fn line_of(self, row: usize) -> usize {
-        self.open.get(row).map_or(self.line, |element| element.line)
+        self.elements
+            .get(row)
+            .map_or(self.line, |element| element.line)
     }
 
     fn origin_of(self, lookup: Lookup) -> Result<Origin, Absence> {

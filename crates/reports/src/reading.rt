@@ -1,4 +1,6 @@
 // Reads a listing token by token, and prints each tag with the namespaces of its names.
+ghost use Rattle.std.specs.Prelude.{◌<◌, IfSome, vec_len};
+
 use crate::element::{Item, OpenElement, Resolved, View, innermost};
 use crate::stop::Stop;
 use crate::tag::{Declared, Tag, Weighed};
@@ -49,14 +51,14 @@ impl fmt::Display for Phase {
     }
 }
 
-// The table has a row for each open element, and the line is that of the token at hand.
+// The elements are the open ones, and the table has a row for each. The line is that of the token at hand.
 #[derive(Drop)]
 pub(crate) struct Reading {
     heap: Global,
     line: usize,
     names: NameTable,
     scopes: ScopeTable,
-    open: Vec<OpenElement>,
+    elements: Vec<OpenElement>,
     phase: Phase,
     tally: Tally,
     out: String,
@@ -73,12 +75,13 @@ fn scopes_after(
     if scopes.binding_count().saturating_add(bindings.len()) > MOST_BINDINGS {
         return Err(ScopeFault::TooManyBindings);
     }
-    if !starts {
-        return Ok(after);
+    if starts {
+        bindings
+            .iter()
+            .try_fold(after, |table, binding| table.add(*binding))
+    } else {
+        Ok(after)
     }
-    bindings
-        .iter()
-        .try_fold(after, |table, binding| table.add(*binding))
 }
 
 impl Reading {
@@ -88,7 +91,7 @@ impl Reading {
             line: 0,
             names: NameTable::new(heap)?,
             scopes: ScopeTable::new(),
-            open: Vec::new(heap),
+            elements: Vec::new(heap),
             phase: Phase::Start,
             tally: Tally::new(heap),
             out: String::new(heap),
@@ -113,14 +116,12 @@ impl Reading {
 
     fn take_token(&mut self, token: ListedToken) -> Result<(), Stop> {
         match token {
-            ListedToken::Tag(tag) => self.take_tag(tag)?,
-            ListedToken::ShortTag => self.take_short()?,
+            ListedToken::Tag(tag) => return self.take_tag(tag),
+            ListedToken::ShortTag => return self.take_short(),
             ListedToken::EndOfFile => self.phase = self.phase.after_end_of_file(self.line),
-            ListedToken::NullCharacter => {
-                // Inside the root element a null character ends the document.
-                if self.phase == Phase::Main {
-                    self.phase = Phase::End { line: self.line };
-                }
+            // Inside the root element a null character ends the document.
+            ListedToken::NullCharacter if self.phase == Phase::Main => {
+                self.phase = Phase::End { line: self.line };
             }
             _ => {}
         }
@@ -137,8 +138,7 @@ impl Reading {
         if self.phase.binds(tag.kind) {
             return self.bind_tag(tag);
         }
-        let phase = self.phase;
-        writeln!(self.out, "  not bound: {phase}")?;
+        writeln!(self.out, "  not bound: {}", self.phase)?;
         Ok(())
     }
 
@@ -155,7 +155,7 @@ impl Reading {
         let bindings = declared.bindings.as_slice();
         let scopes = scopes_after(self.scopes, kind, bindings)?;
         let view = View {
-            open: self.open.as_slice(),
+            elements: self.elements.as_slice(),
             scopes: &self.scopes,
             bindings,
             line: self.line,
@@ -171,8 +171,7 @@ impl Reading {
 
     fn print_declarations(&mut self, weighed: &[Weighed]) -> Result<(), AllocError> {
         for declaration in weighed {
-            let shown = Named::new(&self.names, declaration);
-            writeln!(self.out, "  {shown}")?;
+            writeln!(self.out, "  {}", Named::new(&self.names, declaration))?;
             self.tally.note_error(declaration.verdict.error())?;
         }
         Ok(())
@@ -180,8 +179,7 @@ impl Reading {
 
     fn print_names(&mut self, resolved: &[Resolved]) -> Result<(), AllocError> {
         for name in resolved {
-            let shown = Named::new(&self.names, *name);
-            writeln!(self.out, "  {shown}")?;
+            writeln!(self.out, "  {}", Named::new(&self.names, *name))?;
             self.tally.note_name(self.line, *name)?;
         }
         Ok(())
@@ -192,7 +190,7 @@ impl Reading {
         self.tally.count_bound(kind);
         match kind {
             ListedKind::Start => {
-                self.open.push(OpenElement { name, line })?;
+                self.elements.push(OpenElement { name, line })?;
                 self.phase = Phase::Main;
                 Ok(())
             }
@@ -204,45 +202,40 @@ impl Reading {
                 Ok(())
             }
             ListedKind::End => {
-                let place = innermost(self.open.as_slice(), name.expanded());
+                let place = innermost(self.elements.as_slice(), name.expanded());
                 self.close_from(place)
             }
         }
     }
 
     fn take_short(&mut self) -> Result<(), Stop> {
-        let line = self.line;
-        writeln!(self.out, "line {line}: short")?;
-        let phase = self.phase;
-        if phase == Phase::Main {
-            let innermost = self.open.len().checked_sub(1);
+        writeln!(self.out, "line {}: short", self.line)?;
+        if self.phase == Phase::Main {
+            let innermost = self.elements.len().checked_sub(1);
             return self.close_from(innermost);
         }
-        writeln!(self.out, "  closes nothing: {phase}")?;
+        writeln!(self.out, "  closes nothing: {}", self.phase)?;
         Ok(())
     }
 
     // Closes the open element at a place, and all inside it. There is no place where no element was found.
-    fn close_from(&mut self, place: Option<usize>) -> Result<(), Stop> {
+    fn close_from(&mut self, place: Option<usize>) -> Result<(), Stop>
+        requires { IfSome place (λ i. i < vec_len self.old.elements) }
+    {
         let Some(place) = place else {
             self.out
                 .push_str("  closes nothing: no open element has this name\n")?;
             return Ok(());
         };
-        if let Some([element, inside @ ..]) = self.open.get(place..) {
-            let closed = Closed {
-                element: *element,
-                inside: inside.len(),
-            };
-            let shown = Named::new(&self.names, closed);
-            writeln!(self.out, "  {shown}")?;
-        }
-        let count = self.open.len();
-        self.open.truncate(place);
-        for _ in place..count {
+        let element = self.elements[place];
+        let inside = self.elements.len() - place - 1;
+        let closed = Named::new(&self.names, Closed { element, inside });
+        writeln!(self.out, "  {closed}")?;
+        self.elements.truncate(place);
+        for _ in 0..=inside {
             self.scopes = self.scopes.close_row()?;
         }
-        if self.open.is_empty() {
+        if self.elements.is_empty() {
             self.phase = Phase::End { line: self.line };
         }
         Ok(())
@@ -265,8 +258,7 @@ impl Reading {
             mut out,
             ..
         } = self;
-        let summary = Named::new(&names, &tally);
-        write!(out, "{summary}")?;
+        write!(out, "{}", Named::new(&names, &tally))?;
         Ok(out)
     }
 }
