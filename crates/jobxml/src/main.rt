@@ -46,7 +46,7 @@ fn print_scopes(rt: &HostRuntime, listing: &[u8]) -> Result<(), Failed> {
         rt,
         "make",
         "the report",
-        io::Error::from(e),
+        e.into(),
     ))?;
     print_text(rt, report.text.as_str())?;
     if report.complete { Ok(()) } else { Err(Failed) }

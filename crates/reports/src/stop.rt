@@ -30,6 +30,7 @@ impl From<AllocError> for Stop {
 impl From<ListingFault> for Stop {
     fn from(fault: ListingFault) -> Stop {
         match fault {
+            // The listing's fault does not keep the error.
             ListingFault::Memory => Stop::Memory(AllocError),
             ListingFault::Expected(expected) => Stop::Malformed(expected),
         }
@@ -48,7 +49,7 @@ impl From<ScopeFault> for Stop {
     }
 }
 
-// The faults are the libraries' types, which leave the words to the program.
+// Faults are types of the libraries, which leave the words to the program.
 fn name_words(fault: NameFault) -> &'static str {
     match fault {
         NameFault::TooManyNames { .. } => "there would be more than 512 different names",

@@ -23,10 +23,12 @@ pub(crate) struct Tag {
 
 fn enter_name(names: &mut NameTable, name: &ListedName) -> Result<QualName, Stop> {
     let prefix = name.prefix.as_deref();
+    let prefix = prefix.map(|text| names.enter(text)).transpose()?;
+    let local = names.enter(name.local.as_slice())?;
     Ok(QualName {
-        prefix: prefix.map(|prefix| names.enter(prefix)).transpose()?,
+        prefix,
         ns: Name::EMPTY,
-        local: names.enter(name.local.as_slice())?,
+        local,
     })
 }
 
@@ -55,8 +57,8 @@ impl Tag {
         names: &mut NameTable,
         attr: ListedAttribute,
     ) -> Result<(), Stop> {
-        let name = enter_name(names, &attr.name)?;
-        let ListedAttribute { name: _, value } = attr;
+        let ListedAttribute { name, value } = attr;
+        let name = enter_name(names, &name)?;
         match role_of(name) {
             Role::Declares(prefix) => {
                 self.declarations.push(Declaration {
