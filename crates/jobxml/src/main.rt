@@ -1,7 +1,7 @@
 // The program: what the arguments ask for goes to standard output, and what went wrong to standard error.
 #![tactic(auto)]
 
-use reports::{Command, HELP, Input, Usage, parse, scopes_report};
+use reports::{Command, HELP, Input, Report, Usage, parse, scopes_report};
 use std::fmt::Display;
 use std::io::Read;
 use std::process::ExitCode;
@@ -41,13 +41,12 @@ fn read_input(rt: &HostRuntime, input: Input<'_>) -> Result<Vec<u8>, Failed> {
     read.map_err(|e| say_fault(rt, "read", input, e))
 }
 
+fn make_report(rt: &HostRuntime, listing: &[u8]) -> Result<Report, Failed> {
+    scopes_report(rt.alloc(), listing).map_err(|e| say_fault(rt, "make", "the report", e.into()))
+}
+
 fn print_scopes(rt: &HostRuntime, listing: &[u8]) -> Result<(), Failed> {
-    let report = scopes_report(rt.alloc(), listing).map_err(|e| say_fault(
-        rt,
-        "make",
-        "the report",
-        e.into(),
-    ))?;
+    let report = make_report(rt, listing)?;
     print_text(rt, report.text.as_str())?;
     if report.complete { Ok(()) } else { Err(Failed) }
 }

@@ -110,7 +110,7 @@ impl View<'_> {
                     None => Err(Absence::Undeclared { line }),
                 }
             }
-            Lookup::BuiltIn(ns) if ns == Name::EMPTY => Err(Absence::NoDefault),
+            Lookup::BuiltIn(Name::EMPTY) => Err(Absence::NoDefault),
             Lookup::BuiltIn(_) => Ok(Origin::BuiltIn),
             Lookup::Unbound => Err(Absence::Unbound),
         }

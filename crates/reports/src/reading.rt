@@ -172,7 +172,7 @@ impl Reading {
     fn print_declarations(&mut self, weighed: &[Weighed]) -> Result<(), AllocError> {
         for declaration in weighed {
             writeln!(self.out, "  {}", Named::new(&self.names, declaration))?;
-            self.tally.note_error(declaration.verdict.error())?;
+            self.tally.note_error(declaration.verdict.err())?;
         }
         Ok(())
     }

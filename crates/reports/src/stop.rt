@@ -74,14 +74,14 @@ impl fmt::Display for Stop {
             Stop::Memory(_) => f.write_str("out of memory"),
             Stop::Malformed(expected) => write!(f, "malformed, expected {expected}"),
             Stop::Names(fault) => {
-                let number = Refusal::from(fault).code.number();
                 let words = name_words(fault);
-                write!(f, "refused, number {number}: {words}")
+                let code = Refusal::from(fault).code;
+                write!(f, "refused, number {}: {words}", code.number())
             }
             Stop::Scopes(fault) => {
                 let words = scope_words(fault);
-                match fault.number() {
-                    Some(number) => write!(f, "refused, number {number}: {words}"),
+                match fault.code() {
+                    Some(code) => write!(f, "refused, number {}: {words}", code.number()),
                     // A call that a reading never makes was refused.
                     None => write!(f, "a mistake of this program: {words}"),
                 }

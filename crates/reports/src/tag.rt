@@ -1,8 +1,8 @@
 // A tag whose names have their numbers, and its declarations weighed.
 use crate::stop::Stop;
 use listing::{ListedAttribute, ListedKind, ListedName, ListedTag};
-use names::{Name, NameTable, QualName};
-use scopes::{Binding, Role, Verdict, role_of, weigh};
+use names::{ErrorCode, Name, NameTable, QualName};
+use scopes::{Binding, Declares, Effect, role_of, weigh};
 use std::alloc::Global;
 
 #[derive(Drop)]
@@ -60,14 +60,14 @@ impl Tag {
         let ListedAttribute { name, value } = attr;
         let name = enter_name(names, &name)?;
         match role_of(name) {
-            Role::Declares(prefix) => {
+            Some(Declares(prefix)) => {
                 self.declarations.push(Declaration {
                     name,
                     prefix,
                     value,
                 })?;
             }
-            Role::Ordinary => self.attrs.push(name)?,
+            None => self.attrs.push(name)?,
         }
         Ok(())
     }
@@ -77,7 +77,7 @@ impl Tag {
 #[derive(Drop)]
 pub(crate) struct Weighed {
     pub(crate) declaration: Declaration,
-    pub(crate) verdict: Verdict,
+    pub(crate) verdict: Result<Effect, ErrorCode>,
 }
 
 // The declarations of a tag, and the bindings that come of them.
@@ -108,12 +108,12 @@ impl Declared {
         let value = declaration.value.as_slice();
         let verdict = weigh(self.bindings.as_slice(), prefix, value);
         match verdict {
-            Verdict::Binds => {
+            Ok(Effect::Binds) => {
                 let ns = Some(names.enter(value)?);
                 self.bindings.push(Binding { prefix, ns })?;
             }
-            Verdict::Undeclares => self.bindings.push(Binding { prefix, ns: None })?,
-            Verdict::NoEffect | Verdict::Rejected(_) => {}
+            Ok(Effect::Undeclares) => self.bindings.push(Binding { prefix, ns: None })?,
+            Ok(Effect::Nothing) | Err(_) => {}
         }
         self.weighed.push(Weighed {
             declaration,

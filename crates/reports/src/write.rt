@@ -5,7 +5,7 @@ use crate::texts::{Named, Prefix, Subject};
 use crate::words::error_words;
 use listing::Shown;
 use names::Name;
-use scopes::Verdict;
+use scopes::Effect;
 use std::fmt;
 
 impl fmt::Display for Named<'_, &Weighed> {
@@ -20,10 +20,10 @@ impl fmt::Display for Named<'_, &Weighed> {
         let prefix = self.with(Prefix(*prefix));
         write!(f, "{name}=\"{value}\": ")?;
         match self.value.verdict {
-            Verdict::Binds => write!(f, "binds {prefix}"),
-            Verdict::Undeclares => write!(f, "undeclares {prefix}"),
-            Verdict::NoEffect => write!(f, "no effect, {prefix} is built in"),
-            Verdict::Rejected(code) => {
+            Ok(Effect::Binds) => write!(f, "binds {prefix}"),
+            Ok(Effect::Undeclares) => write!(f, "undeclares {prefix}"),
+            Ok(Effect::Nothing) => write!(f, "no effect, {prefix} is built in"),
+            Err(code) => {
                 let number = code.number();
                 let words = error_words(code);
                 write!(f, "error {number}: {words}")

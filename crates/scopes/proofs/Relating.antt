@@ -11,7 +11,7 @@ use Rattle.scopes.specs.Rows.{in_row, nearest}
 use Rattle.scopes.specs.Lookups.{built_in, declared_or, look}
 use Rattle.scopes.specs.Scoping.{tag_of, declaration_at, Declares, InScope, Undeclared, Applies, Scoped, OnlyScoped, Answered}
 use Rattle.scopes.specs.Scoping.Scoped.{bound, default_undeclared, prefix_undeclared, xml, xmlns, no_default, not_bound}
-use Rattle.scopes.proofs.Comparing.{never, same-Decides, named_is}
+use Rattle.scopes.proofs.Comparing.{same-Decides, named_is}
 use Rattle.scopes.proofs.Searching.{blank}
 
 without_more : (b : Binding) (bs : List Binding) (p : Option Name) (n : ℕ) → same b.prefix p ≡ false → ((m : ℕ) → m < n → (get_or bs m blank).prefix ≡ p → ⊥) → (m : ℕ) → m < suc n → (get_or (b ∷ bs) m blank).prefix ≡ p → ⊥
@@ -27,7 +27,7 @@ record RowFound (k j : ℕ) (bs : List Binding) (p : Option Name) (f : Found) : 
   is : f ≡ record { row = k; place = j + offset; ns = (get_or bs offset blank).ns }
 
 row_found : (k j : ℕ) (bs : List Binding) (p : Option Name) (f : Found) → Some f ≡ in_row k j bs p → RowFound k j bs p f
-row_found k j [] p f h = absurd (never f (sym h))
+row_found k j [] p f h = cc
 row_found k j (b ∷ bs) p f h =
     elim (cases_Bool (same b.prefix p)) [
       | inl y ↦
@@ -56,7 +56,7 @@ row_none : (k j : ℕ) (bs : List Binding) (p : Option Name) → None ≡ in_row
 row_none k j [] p h m lt e = omega arith
 row_none k j (b ∷ bs) p h m lt e =
     elim (cases_Bool (same b.prefix p)) [
-      | inl y ↦ absurd (never (record { row = k; place = j; ns = b.ns }) (h ∙ cond-true _ _ _ y))
+      | inl y ↦ let some = h ∙ cond-true _ _ _ y in cc
       | inr n ↦ without_more b bs p (length bs) n (row_none k (j + 1) bs p (h ∙ cond-false _ _ _ n)) m lt e
     ]
 
@@ -137,12 +137,12 @@ found_step tag outer p f (Some g) e h onward =
     let same_one : Some f ≡ in_row (length outer) 0 tag p = h ∙ e in applies_here tag outer p f (row_found (length outer) 0 tag p f same_one)
 
 pub nearest_applies : (elements : List (List Binding)) (p : Option Name) (f : Found) → Some f ≡ nearest elements p → Applies elements p f
-nearest_applies [] p f h = absurd (never f (sym h))
+nearest_applies [] p f h = cc
 nearest_applies (tag ∷ outer) p f h = found_step tag outer p f (in_row (length outer) 0 tag p) refl h (nearest_applies outer p f)
 
 none_step : (tag : List Binding) (outer : List (List Binding)) (p : Option Name) (o : Option Found) → o ≡ in_row (length outer) 0 tag p → None ≡ option_or o (nearest outer p) → (None ≡ nearest outer p → Undeclared outer p) → Undeclared (tag ∷ outer) p
 none_step tag outer p None e h onward k i d = onward h k i (further tag outer p k i (row_none _ _ tag p e) d)
-none_step tag outer p (Some g) e h onward k i d = never g h
+none_step tag outer p (Some g) e h onward k i d = cc
 
 pub nearest_undeclared : (elements : List (List Binding)) (p : Option Name) → None ≡ nearest elements p → Undeclared elements p
 nearest_undeclared [] p h k i d = omega (arith, d.element)

@@ -1,50 +1,16 @@
 -- The built-in bindings, and that no row binds `xml` or `xmlns`. Assumes nothing.
-use Rattle.std.proofs.Common.{◌≡◌, ℕ, ◌+◌, true, false, not, eqb, ltb, List, [], ◌∷◌, ◌++◌, length, Some, None, Ok, Err, Option, unwrap_or, sym, refl, ap, ◌∙◌, inl, inr, arith}
+use Rattle.std.proofs.Common.{◌≡◌, ℕ, zero, suc, ◌+◌, true, false, not, ltb, List, [], ◌∷◌, ◌++◌, length, Some, None, Ok, Option, sym, refl, ap, ◌∙◌, inl, inr}
 use Rattle.std.specs.Option.{option_or}
-use Rattle.std.proofs.lemmas.Bool.{cond-true, cond-false, cases_Bool, and_parts, and_from, not-true, not_from_false, eqb-true, eqb-false, eq-eqb, ne_eqb, both_ways}
+use Rattle.std.proofs.lemmas.Bool.{cond-true, cond-false, cases_Bool, and_parts, and_from, not-true, not_from_false, both_ways}
 use Rattle.names.specs.declared.qualified.Name.{Name}
-use Rattle.names.specs.Names.{numbered}
 use Rattle.scopes.specs.declared.bindings.Binding.{Binding}
 use Rattle.scopes.specs.declared.bindings.Found.{Found}
 use Rattle.scopes.specs.declared.bindings.Lookup.{Lookup}
-use Rattle.scopes.specs.declared.bindings.Lookup.TheVariants.{Declared, BuiltIn, Unbound}
-use Rattle.scopes.specs.Prefixes.{same, reserved, free_row, free, built_ins, is_built_in}
-use Rattle.scopes.specs.Rows.{size, added, closed, in_row, nearest}
+use Rattle.scopes.specs.declared.bindings.Lookup.TheVariants.{Declared}
+use Rattle.scopes.specs.Prefixes.{same, reserved, free_row, free, keeps_free}
+use Rattle.scopes.specs.Rows.{size, refuses, added, in_row, nearest}
 use Rattle.scopes.specs.Lookups.{built_in, declared_or, on_tag, look}
-use Rattle.scopes.proofs.Comparing.{never, same-Decides, bindings_same}
-
--- there are three built-in bindings
-pub three : (bs : List Binding) → is_built_in bs ≡ true → length bs ≡ 3
-three bs h = ap length (bindings_same bs built_ins h)
-
--- what they say of a prefix
-abbrev pub from_found : Option Found → Lookup
-from_found (Some f) = BuiltIn (unwrap_or f.ns (numbered 0))
-from_found None = Unbound
-
-eqb_sym : (m n : ℕ) → eqb m n ≡ eqb n m
-eqb_sym m n =
-    elim (cases_Bool (eqb n m)) [
-      | inl y ↦ eq-eqb m n (sym (eqb-true n m y)) ∙ sym y
-      | inr z ↦ ne_eqb m n (λ e. eqb-false n m z (sym e)) ∙ sym z
-    ]
-
-in_built_ins : (p : Option Name) → from_found (in_row 0 0 built_ins p) ≡ built_in p
-in_built_ins None = refl
-in_built_ins (Some n) =
-    elim (cases_Bool (eqb n.0 1)) [
-      | inl y ↦ ap from_found (cond-true _ _ _ (eqb_sym 1 n.0 ∙ y)) ∙ sym (cond-true _ _ _ y)
-      | inr z ↦
-          ap from_found (cond-false _ _ _ (eqb_sym 1 n.0 ∙ z))
-          ∙ elim (cases_Bool (eqb n.0 2)) [
-            | inl y ↦ ap from_found (cond-true _ _ _ (eqb_sym 2 n.0 ∙ y)) ∙ sym (cond-true _ _ _ y)
-            | inr w ↦ ap from_found (cond-false _ _ _ (eqb_sym 2 n.0 ∙ w)) ∙ sym (cond-false _ _ _ w)
-          ]
-          ∙ sym (cond-false _ _ _ z)
-    ]
-
-pub built_in_found : (bs : List Binding) (p : Option Name) → is_built_in bs ≡ true → from_found (in_row 0 0 bs p) ≡ built_in p
-built_in_found bs p h = ap (λ l. from_found (in_row 0 0 l p)) (bindings_same bs built_ins h) ∙ in_built_ins p
+use Rattle.scopes.proofs.Comparing.{same-Decides}
 
 joined : (o q : Option Found) (l : Lookup) → declared_or o (declared_or q l) ≡ declared_or (option_or o q) l
 joined (Some f) q l = refl
@@ -70,7 +36,7 @@ nearest-free (row ∷ rows) p h r =
 pub look_found : (rows : List (List Binding)) (p : Option Name) (f : Found) → free rows ≡ true → Some f ≡ nearest rows p → Declared f ≡ look rows p
 look_found rows p f h e =
     elim (cases_Bool (reserved p)) [
-      | inl y ↦ absurd (never f (sym (e ∙ nearest-free rows p h y)))
+      | inl y ↦ let none = e ∙ nearest-free rows p h y in cc
       | inr n ↦ ap (λ o. declared_or o (built_in p)) e ∙ sym (cond-false _ _ _ n)
     ]
 
@@ -91,11 +57,8 @@ free_push [] b h n = and_from _ _ (not_from_false _ n) refl
 free_push (a ∷ bs) b h n =
     let p = and_parts (not (reserved a.prefix)) (free_row bs) h in and_from _ _ p.0 (free_push bs b p.1 n)
 
-bad : {A E : Type 0} (x : A) (e : E) → Ok x ≡ Err e → ⊥
-bad x e h = let z : ◌≡◌ {A = ℕ} 0 1 = cc in omega arith
-
-pub free-added : (below : ℕ) (rows us : List (List Binding)) (b : Binding) → Ok us ≡ added below rows b → free rows ≡ true → reserved b.prefix ≡ false → free us ≡ true
-free-added below [] us b e h n = absurd (bad _ _ e)
+free-added : (below : ℕ) (rows us : List (List Binding)) (b : Binding) → Ok us ≡ added below rows b → free rows ≡ true → reserved b.prefix ≡ false → free us ≡ true
+free-added below [] us b e h n = cc
 free-added below (row ∷ rows) us b e h n =
     let p = and_parts (free_row row) (free rows) h in
     elim (cases_Bool (ltb (below + size (row ∷ rows)) 256)) [
@@ -103,10 +66,14 @@ free-added below (row ∷ rows) us b e h n =
           let g = e ∙ cond-true _ _ _ y in
           let same_rows : us ≡ (row ++ b ∷ []) ∷ rows = cc in
           ap free same_rows ∙ and_from _ _ (free_push row b p.0 n) p.1
-      | inr z ↦ absurd (bad _ _ (e ∙ cond-false _ _ _ z))
+      | inr z ↦ let full = e ∙ cond-false _ _ _ z in cc
     ]
 
--- and so does closing one
-pub free-closed : (rows us : List (List Binding)) → Ok us ≡ closed rows → free rows ≡ true → free us ≡ true
-free-closed [] us e h = absurd (bad _ _ e)
-free-closed (row ∷ rows) us e h = let same_rows : us ≡ rows = cc in ap free same_rows ∙ (and_parts (free_row row) (free rows) h).1
+-- so where no row has a reserved prefix, none has after a binding was added that is not refused
+pub keeps_free-added : (n : ℕ) (rows us : List (List Binding)) (b : Binding) → Ok us ≡ added n rows b → keeps_free n rows ≡ true → refuses n b.prefix ≡ false → keeps_free n us ≡ true
+keeps_free-added zero rows us b e h r = refl
+keeps_free-added (suc n) rows us b e h r = free-added (suc n) rows us b e h r
+
+pub keeps_free-opened : (n : ℕ) (rows : List (List Binding)) → keeps_free n rows ≡ true → keeps_free n ([] ∷ rows) ≡ true
+keeps_free-opened zero rows h = refl
+keeps_free-opened (suc n) rows h = h

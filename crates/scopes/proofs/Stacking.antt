@@ -2,12 +2,12 @@
 use Rattle.std.proofs.Common.{◌≡◌, ℕ, zero, suc, ◌+◌, ◌-◌, ◌<◌, ◌≤◌, true, ◌&&◌, leb, ◌≢◌, List, [], ◌∷◌, ◌++◌, length, get_or, take, drop, set, Ok, Err, sym, refl, ap, ◌∙◌, subst, add-one, arith, length-set}
 use Rattle.std.specs.List.{between}
 use Rattle.std.proofs.lemmas.List.Edits.{between_none, between_more, length-between}
-use Rattle.std.proofs.lemmas.List.{get_or-set_same, get_or-set_other, take-set-le, drop-set-add, length-take-le}
+use Rattle.std.proofs.lemmas.List.{get_or-set_same, get_or-set_other, take-set-le, drop-set-add}
 use Rattle.std.proofs.lemmas.Bool.{and_parts, and_from, leb-true, le-leb, eqb-true, cond-true, cond-false, lt-ltb, le-ltb}
 use Rattle.scopes.specs.declared.bindings.Binding.{Binding}
 use Rattle.scopes.specs.declared.faults.ScopeFault.TheVariants.{TooManyBindings}
 use Rattle.scopes.specs.Stacks.{stacked, climbs}
-use Rattle.scopes.specs.Rows.{size, added, closed}
+use Rattle.scopes.specs.Rows.{size, added}
 
 -- the innermost row lies above the others
 pub record Top (b : ℕ) (s : List ℕ) (n e : ℕ) : Type 0 where
@@ -84,11 +84,7 @@ pub add_climbs : (b : ℕ) (s : List ℕ) (n e : ℕ) → (n ≡ 0 → ⊥) → 
 add_climbs b s zero e some h = absurd (some refl)
 add_climbs b s (suc n) e some h = let t = top b s n e h in and_from _ _ (le-leb _ _ (omega (arith, t.low))) t.on
 
-pub below_rows : (b : ℕ) (s : List ℕ) (xs : List Binding) (n e : ℕ) → climbs b s n e ≡ true → e ≤ length xs → length (take b xs) + size (stacked s xs n e) ≡ e
-below_rows b s xs n e h le =
-    omega (arith, length-take-le b xs (omega (arith, above_bottom b s n e h)), size-stacked b s xs n e h le)
-
-pub add_stacked : (b : ℕ) (s : List ℕ) (xs : List Binding) (n e : ℕ) (y : Binding) → (n ≡ 0 → ⊥) → climbs b s n e ≡ true → e < 256 → e < length xs → Ok (stacked s (set xs e y) n (e + 1)) ≡ added (length (take b xs)) (stacked s xs n e) y
+pub add_stacked : (b : ℕ) (s : List ℕ) (xs : List Binding) (n e : ℕ) (y : Binding) → (n ≡ 0 → ⊥) → climbs b s n e ≡ true → e < 256 → e < length xs → Ok (stacked s (set xs e y) n (e + 1)) ≡ added b (stacked s xs n e) y
 add_stacked b s xs zero e y some h lt le = absurd (some refl)
 add_stacked b s xs (suc n) e y some h lt le =
     let t = top b s n e h in
@@ -98,19 +94,14 @@ add_stacked b s xs (suc n) e y some h lt le =
     let row : between f (e + 1) (set xs e y) ≡ between f e xs ++ y ∷ [] =
     between_more (set xs e y) f e y t.low long ∙ (λ i. between-set xs f e e y t.low (omega arith) i ++ here i ∷ []) in
     ap Ok (λ i. row i ∷ stacked_entries b s xs n f e y t.on t.low i)
-    ∙ sym (cond-true _ _ _ (lt-ltb (length (take b xs) + size (stacked s xs (suc n) e)) 256 (omega (arith, below_rows b s xs (suc n) e h (omega arith)))))
+    ∙ sym (cond-true _ _ _ (lt-ltb (b + size (stacked s xs (suc n) e)) 256 (omega (arith, size-stacked b s xs (suc n) e h (omega arith)))))
 
-pub add_full : (b : ℕ) (s : List ℕ) (xs : List Binding) (n e : ℕ) (y : Binding) → (n ≡ 0 → ⊥) → climbs b s n e ≡ true → 256 ≤ e → e ≤ length xs → Err TooManyBindings ≡ added (length (take b xs)) (stacked s xs n e) y
+pub add_full : (b : ℕ) (s : List ℕ) (xs : List Binding) (n e : ℕ) (y : Binding) → (n ≡ 0 → ⊥) → climbs b s n e ≡ true → 256 ≤ e → e ≤ length xs → Err TooManyBindings ≡ added b (stacked s xs n e) y
 add_full b s xs zero e y some h ge le = absurd (some refl)
 add_full b s xs (suc n) e y some h ge le =
-    sym (cond-false _ _ _ (le-ltb (length (take b xs) + size (stacked s xs (suc n) e)) 256 (omega (arith, below_rows b s xs (suc n) e h le))))
+    sym (cond-false _ _ _ (le-ltb (b + size (stacked s xs (suc n) e)) 256 (omega (arith, size-stacked b s xs (suc n) e h le))))
 
 -- a row less
-pub close_stacked : (s : List ℕ) (xs : List Binding) (n e : ℕ) → (n ≡ 0 → ⊥) → Ok (stacked s xs (n - 1) (get_or s (n - 1) 0)) ≡ closed (stacked s xs n e)
-close_stacked s xs zero e some = absurd (some refl)
-close_stacked s xs (suc n) e some =
-    let back : suc n - 1 ≡ n = omega arith in ap (λ k. Ok (stacked s xs k (get_or s k 0))) back
-
 pub close_top : (b : ℕ) (s : List ℕ) (n e : ℕ) → (n ≡ 0 → ⊥) → climbs b s n e ≡ true → Top b s (n - 1) e
 close_top b s zero e some h = absurd (some refl)
 close_top b s (suc n) e some h =

@@ -1,5 +1,5 @@
 -- What the chain of a declaration's weighing comes to. Assumes nothing.
-use Rattle.std.proofs.Common.{◌≡◌, ℕ, zero, suc, ◌+◌, Bool, true, false, ◌||◌, List, [], ◌∷◌, is_some, Decides, Option, sym, refl, ap, ◌∙◌, subst, inl, inr, arith}
+use Rattle.std.proofs.Common.{◌≡◌, ℕ, zero, suc, ◌+◌, Bool, true, false, ◌||◌, List, [], ◌∷◌, is_some, Ok, Err, Decides, Option, sym, refl, ap, ◌∙◌, subst, inl, inr, arith}
 use Rattle.std.specs.Str.{bytes_eq}
 use Rattle.std.proofs.lemmas.Slice.Eq.{bytes_eq-Decides}
 use Rattle.std.proofs.lemmas.Bool.{cond-true, cond-false, cases_Bool, or_parts, or_left, or_right, or_from, both_ways, false≢true}
@@ -7,9 +7,8 @@ use Rattle.names.specs.declared.errors.ErrorCode.TheVariants.{XmlnsUriDeclared, 
 use Rattle.names.specs.declared.qualified.Name.{Name}
 use Rattle.names.specs.BuiltIn.{xml_uri, xmlns_uri}
 use Rattle.scopes.specs.declared.bindings.Binding.{Binding}
-use Rattle.scopes.specs.declared.declarations.Verdict.{Verdict}
-use Rattle.scopes.specs.declared.declarations.Verdict.TheVariants.{NoEffect, Rejected}
-use Rattle.scopes.specs.Declarations.{binds_or_undeclares, weighed, takes_effect, Unreserved, New, AcceptsUnreserved}
+use Rattle.scopes.specs.declared.declarations.Effect.TheVariants.{Nothing}
+use Rattle.scopes.specs.Declarations.{Verdict, binds_or_undeclares, weighed, takes_effect, Unreserved, New, AcceptsUnreserved}
 use Rattle.scopes.specs.Prefixes.{same, named}
 use Rattle.scopes.specs.Rows.{binds, in_row}
 use Rattle.scopes.proofs.Comparing.{same-Decides}
@@ -50,26 +49,26 @@ rejects r e no_way = (λ h. absurd (both_ways _ e h), λ x. absurd (no_way x))
 
 module _ (tag : List Binding) (p : Option Name) (v : List ℕ) where
   -- the lines of the chain, each under the failure of those before it
-  pub at_xmlns_uri : bytes_eq v xmlns_uri ≡ true → weighed tag p v ≡ Rejected XmlnsUriDeclared
+  pub at_xmlns_uri : bytes_eq v xmlns_uri ≡ true → weighed tag p v ≡ Err XmlnsUriDeclared
   at_xmlns_uri a = cond-true _ _ _ a
 
   module _ (a : bytes_eq v xmlns_uri ≡ false) where
-    pub at_xml : named 1 p ≡ true → bytes_eq v xml_uri ≡ true → weighed tag p v ≡ NoEffect
+    pub at_xml : named 1 p ≡ true → bytes_eq v xml_uri ≡ true → weighed tag p v ≡ Ok Nothing
     at_xml b d = cond-false _ _ _ a ∙ cond-true _ _ _ b ∙ cond-true _ _ _ d
 
-    pub at_xml_other : named 1 p ≡ true → bytes_eq v xml_uri ≡ false → weighed tag p v ≡ Rejected XmlPrefixDeclared
+    pub at_xml_other : named 1 p ≡ true → bytes_eq v xml_uri ≡ false → weighed tag p v ≡ Err XmlPrefixDeclared
     at_xml_other b d = cond-false _ _ _ a ∙ cond-true _ _ _ b ∙ cond-false _ _ _ d
 
     module _ (b : named 1 p ≡ false) where
-      pub at_xmlns : named 2 p ≡ true → weighed tag p v ≡ Rejected XmlnsPrefixDeclared
+      pub at_xmlns : named 2 p ≡ true → weighed tag p v ≡ Err XmlnsPrefixDeclared
       at_xmlns d = cond-false _ _ _ a ∙ cond-false _ _ _ b ∙ cond-true _ _ _ d
 
       module _ (d : named 2 p ≡ false) where
-        pub at_xml_uri : bytes_eq v xml_uri ≡ true → weighed tag p v ≡ Rejected XmlPrefixDeclared
+        pub at_xml_uri : bytes_eq v xml_uri ≡ true → weighed tag p v ≡ Err XmlPrefixDeclared
         at_xml_uri e = cond-false _ _ _ a ∙ cond-false _ _ _ b ∙ cond-false _ _ _ d ∙ cond-true _ _ _ e
 
         module _ (e : bytes_eq v xml_uri ≡ false) where
-          pub at_twice : binds tag p ≡ true → weighed tag p v ≡ Rejected DeclaredTwice
+          pub at_twice : binds tag p ≡ true → weighed tag p v ≡ Err DeclaredTwice
           at_twice f = cond-false _ _ _ a ∙ cond-false _ _ _ b ∙ cond-false _ _ _ d ∙ cond-false _ _ _ e ∙ cond-true _ _ _ f
 
           pub at_end : binds tag p ≡ false → weighed tag p v ≡ binds_or_undeclares v
@@ -90,23 +89,23 @@ module _ (tag : List Binding) (p : Option Name) (v : List ℕ) where
   pub accepts : AcceptsUnreserved tag p v (weighed tag p v)
   accepts =
       elim (cases_Bool (bytes_eq v xmlns_uri)) [
-        | inl a ↦ by_verdict _ (at_xmlns_uri a) (rejects (Rejected XmlnsUriDeclared) refl (λ x. x.0.not_xmlns ((bytes_eq-Decides v xmlns_uri).0 a)))
+        | inl a ↦ by_verdict _ (at_xmlns_uri a) (rejects (Err XmlnsUriDeclared) refl (λ x. x.0.not_xmlns ((bytes_eq-Decides v xmlns_uri).0 a)))
         | inr a ↦
             elim (cases_Bool (named 1 p)) [
               | inl b ↦
                   elim (cases_Bool (bytes_eq v xml_uri)) [
-                    | inl d ↦ by_verdict _ (at_xml a b d) (rejects NoEffect refl (λ x. both_ways _ x.0.prefix (or_left _ _ b)))
-                    | inr d ↦ by_verdict _ (at_xml_other a b d) (rejects (Rejected XmlPrefixDeclared) refl (λ x. both_ways _ x.0.prefix (or_left _ _ b)))
+                    | inl d ↦ by_verdict _ (at_xml a b d) (rejects (Ok Nothing) refl (λ x. both_ways _ x.0.prefix (or_left _ _ b)))
+                    | inr d ↦ by_verdict _ (at_xml_other a b d) (rejects (Err XmlPrefixDeclared) refl (λ x. both_ways _ x.0.prefix (or_left _ _ b)))
                   ]
               | inr b ↦
                   elim (cases_Bool (named 2 p)) [
-                    | inl d ↦ by_verdict _ (at_xmlns a b d) (rejects (Rejected XmlnsPrefixDeclared) refl (λ x. both_ways _ x.0.prefix (or_right _ _ d)))
+                    | inl d ↦ by_verdict _ (at_xmlns a b d) (rejects (Err XmlnsPrefixDeclared) refl (λ x. both_ways _ x.0.prefix (or_right _ _ d)))
                     | inr d ↦
                         elim (cases_Bool (bytes_eq v xml_uri)) [
-                          | inl e ↦ by_verdict _ (at_xml_uri a b d e) (rejects (Rejected XmlPrefixDeclared) refl (λ x. x.0.not_xml ((bytes_eq-Decides v xml_uri).0 e)))
+                          | inl e ↦ by_verdict _ (at_xml_uri a b d e) (rejects (Err XmlPrefixDeclared) refl (λ x. x.0.not_xml ((bytes_eq-Decides v xml_uri).0 e)))
                           | inr e ↦
                               elim (cases_Bool (binds tag p)) [
-                                | inl f ↦ by_verdict _ (at_twice a b d e f) (rejects (Rejected DeclaredTwice) refl (λ x. not_new tag p f x.1))
+                                | inl f ↦ by_verdict _ (at_twice a b d e f) (rejects (Err DeclaredTwice) refl (λ x. not_new tag p f x.1))
                                 | inr f ↦ by_verdict _ (at_end a b d e f) ((λ _. (fine a b d e, is_new tag p f)), (λ _. effect v))
                               ]
                         ]

@@ -1,5 +1,5 @@
 -- Which attributes are declarations, and what comes of one. Assumes nothing.
-use Rattle.std.specs.Prelude.{◌≡◌, ℕ, ◌<◌, Bool, true, false, cond, List, [], ◌∷◌, length, Some, None, Decides, Option, ◌==◌, ◌≢◌, slice_index_or}
+use Rattle.std.specs.Prelude.{◌≡◌, ℕ, ◌<◌, Bool, true, false, cond, List, [], ◌∷◌, length, Some, None, Ok, Err, Decides, Option, Result, ◌==◌, ◌≢◌, slice_index_or}
 use Rattle.std.specs.Str.{bytes_eq}
 use Rattle.names.specs.declared.errors.ErrorCode.{ErrorCode}
 use Rattle.names.specs.declared.errors.ErrorCode.TheVariants.{XmlnsUriDeclared, XmlPrefixDeclared, XmlnsPrefixDeclared, DeclaredTwice}
@@ -7,48 +7,48 @@ use Rattle.names.specs.declared.qualified.Name.{Name}
 use Rattle.names.specs.declared.qualified.QualName.{QualName}
 use Rattle.names.specs.BuiltIn.{xml_uri, xmlns_uri}
 use Rattle.scopes.specs.declared.bindings.Binding.{Binding}
-use Rattle.scopes.specs.declared.declarations.Role.{Role}
-use Rattle.scopes.specs.declared.declarations.Role.TheVariants.{Declares, Ordinary}
-use Rattle.scopes.specs.declared.declarations.Verdict.{Verdict}
-use Rattle.scopes.specs.declared.declarations.Verdict.TheVariants.{Binds, Undeclares, NoEffect, Rejected}
+use Rattle.scopes.specs.declared.declarations.Declares.{Declares}
+use Rattle.scopes.specs.declared.declarations.Effect.{Effect}
+use Rattle.scopes.specs.declared.declarations.Effect.TheVariants.{Binds, Undeclares, Nothing}
 use Rattle.scopes.specs.Prefixes.{named, reserved}
 use Rattle.scopes.specs.Rows.{binds}
 
--- `xmlns:L` declares L, and `xmlns` without a prefix the absent prefix (2 is the number of `xmlns`)
-abbrev pub role_of : QualName → Role
+-- an attribute that declares the prefix p
+abbrev pub declaring : Option Name → Declares
+declaring p = record { 0 = p }
+
+-- `xmlns:L` declares L, and `xmlns` without a prefix the absent prefix (2 is the number of `xmlns`); no other declares
+abbrev pub role_of : QualName → Option Declares
 role_of q =
     elim q.prefix [
-      | None ↦ cond (q.local.0 == 2) (Declares None) Ordinary
-      | Some p ↦ cond (p.0 == 2) (Declares (Some q.local)) Ordinary
+      | None ↦ cond (q.local.0 == 2) (Some (declaring None)) None
+      | Some p ↦ cond (p.0 == 2) (Some (declaring (Some q.local))) None
     ]
 
+-- what comes of a declaration: what it does, or the error that is noted
+abbrev pub Verdict : Type 0
+Verdict = Result Effect ErrorCode
+
 abbrev pub binds_or_undeclares : List ℕ → Verdict
-binds_or_undeclares [] = Undeclares
-binds_or_undeclares (c ∷ cs) = Binds
+binds_or_undeclares [] = Ok Undeclares
+binds_or_undeclares (c ∷ cs) = Ok Binds
 
 -- what comes of declaring p with the value v, where `tag` was accepted before: the lines are tried in turn
 abbrev pub weighed : List Binding → Option Name → List ℕ → Verdict
 weighed tag p v =
-    cond (bytes_eq v xmlns_uri) (Rejected XmlnsUriDeclared)
-    (cond (named 1 p) (cond (bytes_eq v xml_uri) NoEffect (Rejected XmlPrefixDeclared))
-    (cond (named 2 p) (Rejected XmlnsPrefixDeclared)
-    (cond (bytes_eq v xml_uri) (Rejected XmlPrefixDeclared)
-    (cond (binds tag p) (Rejected DeclaredTwice)
+    cond (bytes_eq v xmlns_uri) (Err XmlnsUriDeclared)
+    (cond (named 1 p) (cond (bytes_eq v xml_uri) (Ok Nothing) (Err XmlPrefixDeclared))
+    (cond (named 2 p) (Err XmlnsPrefixDeclared)
+    (cond (bytes_eq v xml_uri) (Err XmlPrefixDeclared)
+    (cond (binds tag p) (Err DeclaredTwice)
     (binds_or_undeclares v)))))
-
--- the error that a verdict notes
-abbrev pub verdict_error : Verdict → Option ErrorCode
-verdict_error Binds = None
-verdict_error Undeclares = None
-verdict_error NoEffect = None
-verdict_error (Rejected e) = Some e
 
 -- a verdict that takes effect
 abbrev pub takes_effect : Verdict → Bool
-takes_effect Binds = true
-takes_effect Undeclares = true
-takes_effect NoEffect = false
-takes_effect (Rejected e) = false
+takes_effect (Ok Binds) = true
+takes_effect (Ok Undeclares) = true
+takes_effect (Ok Nothing) = false
+takes_effect (Err e) = false
 
 -- what Namespaces in XML 1.0 asks of a declaration for the sake of `xml` and `xmlns`: neither prefix, neither namespace;
 -- an empty value for a prefix, which that document forbids as well, passes here and undeclares the prefix

@@ -3,7 +3,7 @@ pub mod Declarations
 pub mod Faults
 pub mod Stacks
 pub mod Rows
-pub mod Held
+pub mod Pushing
 pub mod Lookups
 pub mod Scoping
 pub mod Tables

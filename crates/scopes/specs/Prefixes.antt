@@ -1,5 +1,5 @@
 -- Prefixes, those that are reserved, and the bindings that are built in. Assumes nothing.
-use Rattle.std.specs.Prelude.{ℕ, Bool, true, false, not, ◌&&◌, ◌||◌, List, [], ◌∷◌, Some, None, Option, ◌==◌}
+use Rattle.std.specs.Prelude.{ℕ, zero, suc, Bool, true, false, not, ◌&&◌, ◌||◌, List, [], ◌∷◌, Some, None, Option, ◌==◌}
 use Rattle.names.specs.declared.qualified.Name.{Name}
 use Rattle.names.specs.Names.{numbered}
 use Rattle.scopes.specs.declared.bindings.Binding.{Binding}
@@ -29,6 +29,11 @@ abbrev pub free : List (List Binding) → Bool
 free [] = true
 free (row ∷ rows) = free_row row && free rows
 
+-- in a table with built-in bindings no row has a reserved prefix; n is how many are built in
+abbrev pub keeps_free : ℕ → List (List Binding) → Bool
+keeps_free zero rows = true
+keeps_free (suc n) rows = free rows
+
 -- the absent prefix stands for the empty namespace (number 0), `xml` and `xmlns` for their own (4 and 5)
 abbrev pub built_ins : List Binding
 built_ins =
@@ -36,13 +41,3 @@ built_ins =
     ∷ record { prefix = Some (numbered 1); ns = Some (numbered 4) }
     ∷ record { prefix = Some (numbered 2); ns = Some (numbered 5) }
     ∷ []
-
-abbrev pub same_bindings : List Binding → List Binding → Bool
-same_bindings [] [] = true
-same_bindings [] (c ∷ cs) = false
-same_bindings (b ∷ bs) [] = false
-same_bindings (b ∷ bs) (c ∷ cs) = (same b.prefix c.prefix && same b.ns c.ns) && same_bindings bs cs
-
--- these are the built-in bindings
-abbrev pub is_built_in : List Binding → Bool
-is_built_in bs = same_bindings bs built_ins

@@ -1,5 +1,6 @@
 -- Rows of bindings, one for each open element, innermost first: how they change, and the look-up in them. Assumes nothing.
-use Rattle.std.specs.Prelude.{ℕ, ◌+◌, Bool, false, cond, ◌||◌, List, [], ◌∷◌, ◌++◌, length, Some, None, Ok, Err, Option, Result, nat_lt}
+use Rattle.std.specs.Prelude.{ℕ, zero, suc, ◌+◌, Bool, false, cond, List, [], ◌∷◌, ◌++◌, length, Some, None, Ok, Err, Option, Result, nat_lt}
+use Rattle.std.specs.List.{list_any}
 use Rattle.std.specs.Option.{option_or}
 use Rattle.names.specs.declared.qualified.Name.{Name}
 use Rattle.scopes.specs.declared.bindings.Binding.{Binding}
@@ -22,9 +23,14 @@ abbrev pub added : ℕ → List (List Binding) → Binding → Result (List (Lis
 added below [] b = Err NoOpenRow
 added below (row ∷ rows) b = cond (nat_lt (below + size (row ∷ rows)) 256) (Ok ((row ++ b ∷ []) ∷ rows)) (Err TooManyBindings)
 
--- the same in the builder's table, which has three built-in bindings and takes none of a reserved prefix
-abbrev pub declared : List (List Binding) → Binding → Result (List (List Binding)) ScopeFault
-declared rows b = cond (reserved b.prefix) (Err Reserved) (added 3 rows b)
+-- where n bindings are built in, and not none, `xml` and `xmlns` are bound for good
+abbrev pub refuses : ℕ → Option Name → Bool
+refuses zero p = false
+refuses (suc n) p = reserved p
+
+-- the same in a table of n built-in bindings, which takes none of a prefix that it refuses
+abbrev pub declared : ℕ → List (List Binding) → Binding → Result (List (List Binding)) ScopeFault
+declared n rows b = cond (refuses n b.prefix) (Err Reserved) (added n rows b)
 
 -- the innermost row is taken away
 abbrev pub closed : List (List Binding) → Result (List (List Binding)) ScopeFault
@@ -33,8 +39,7 @@ closed (row ∷ rows) = Ok rows
 
 -- whether a row binds p
 abbrev pub binds : List Binding → Option Name → Bool
-binds [] p = false
-binds (b ∷ bs) p = same b.prefix p || binds bs p
+binds row p = list_any (λ b. same b.prefix p) row
 
 -- the first binding of p in the row with the number k, whose first binding has the place i
 abbrev pub in_row : ℕ → ℕ → List Binding → Option Name → Option Found

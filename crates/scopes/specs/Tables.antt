@@ -1,20 +1,14 @@
--- What the builder's and the serializer's tables hold: a row for each open element, innermost first. Assumes nothing.
-use Rattle.std.specs.Prelude.{List, Result}
+-- What a table holds: a row for each open element, innermost first. Assumes nothing.
+use Rattle.std.specs.Prelude.{ℕ, List, Result}
 use Rattle.std.specs.Result.{result_map_both}
 use Rattle.scopes.specs.declared.bindings.Binding.{Binding}
 use Rattle.scopes.specs.declared.faults.ScopeFault.{ScopeFault}
-use Rattle.scopes.specs.declared.scope_table.ScopeTable.{ScopeTable}
-use Rattle.scopes.specs.declared.serializer_scopes.SerializerScopes.{SerializerScopes}
-use Rattle.scopes.specs.Held.{held}
+use Rattle.scopes.specs.declared.tables.Scopes.{Scopes}
+use Rattle.scopes.specs.Stacks.{stacked}
 
-abbrev pub rows_of : ScopeTable → List (List Binding)
-rows_of t = held t.rows
+-- n bindings are built in, and belong to no row
+abbrev pub rows_of : {n : ℕ} → Scopes n → List (List Binding)
+rows_of t = stacked t.starts.items t.entries.items t.starts.len t.entries.len
 
-abbrev pub rows_by : Result ScopeTable ScopeFault → Result (List (List Binding)) ScopeFault
+abbrev pub rows_by : {n : ℕ} → Result (Scopes n) ScopeFault → Result (List (List Binding)) ScopeFault
 rows_by r = result_map_both rows_of (λ e. e) r
-
-abbrev pub written_of : SerializerScopes → List (List Binding)
-written_of t = held t.rows
-
-abbrev pub written_by : Result SerializerScopes ScopeFault → Result (List (List Binding)) ScopeFault
-written_by r = result_map_both written_of (λ e. e) r

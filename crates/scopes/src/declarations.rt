@@ -1,108 +1,75 @@
 // Which attributes are declarations, and what comes of one.
 ghost use Rattle.std.specs.Prelude.{◌≡◌};
-ghost use Rattle.std.specs.Str.{bytes_eq};
-ghost use Rattle.names.specs.BuiltIn.{xml_uri, xmlns_uri};
-ghost use Rattle.scopes.specs.Declarations.{role_of, verdict_error, weighed, AcceptsUnreserved};
+ghost use Rattle.scopes.specs.Declarations.{role_of, weighed, AcceptsUnreserved};
 ghost use Rattle.scopes.specs.Rows.{binds};
 
 use crate::bindings::Binding;
-use crate::prefixes::is_named;
-use crate::rows::find_in;
 use names::{ErrorCode, Name, QualName, XML_URI, XMLNS_URI};
 
-// What an attribute is by its name: the declaration of a prefix, or of the default namespace, or neither.
+// An attribute that declares this prefix, or the default namespace.
 #[derive(Clone, Copy)]
-pub enum Role {
-    Declares(Option<Name>),
-    Ordinary,
-}
+pub struct Declares(pub Option<Name>);
 
-// What comes of a declaration.
-#[derive(Clone, Copy)]
-pub enum Verdict {
+// What a declaration does that is accepted.
+#[derive(Clone, Copy, PartialEq, Eq)]
+pub enum Effect {
     Binds,
     Undeclares,
-    NoEffect,
-    Rejected(ErrorCode),
+    Nothing,
 }
 
-impl Verdict {
-    // The error that is noted, if there is one.
-    pub fn error(self) -> Option<ErrorCode>
-        ensures { result ≡ verdict_error self }
-    {
-        match self {
-            Verdict::Binds => None,
-            Verdict::Undeclares => None,
-            Verdict::NoEffect => None,
-            Verdict::Rejected(code) => Some(code),
-        }
-    }
-}
-
-// `xmlns:L` declares L, and `xmlns` without a prefix the absent prefix.
-pub fn role_of(name: QualName) -> Role
+// `xmlns:L` declares L, and `xmlns` without a prefix the absent prefix. All other attributes are ordinary ones.
+pub fn role_of(name: QualName) -> Option<Declares>
     ensures { result ≡ role_of name }
 {
     match name.prefix {
-        Some(prefix) if prefix == Name::XMLNS => Role::Declares(Some(name.local)),
-        None if name.local == Name::XMLNS => Role::Declares(None),
-        _ => Role::Ordinary,
+        Some(Name::XMLNS) => Some(Declares(Some(name.local))),
+        None if name.local == Name::XMLNS => Some(Declares(None)),
+        _ => None,
     }
-}
-
-fn is_xml_uri(value: &[u8]) -> bool
-    ensures { result ≡ bytes_eq value.now xml_uri }
-{
-    value == XML_URI
-}
-
-fn is_xmlns_uri(value: &[u8]) -> bool
-    ensures { result ≡ bytes_eq value.now xmlns_uri }
-{
-    value == XMLNS_URI
 }
 
 // Whether a row has a binding of `prefix`.
 fn is_bound(row: &[Binding], prefix: Option<Name>) -> bool
     ensures { result ≡ binds row.now prefix }
 {
-    find_in(0, row, prefix).is_some()
+    row.iter().any(|binding| binding.prefix == prefix)
 }
 
 // The first line that fits decides.
-fn verdict_of(tag: &[Binding], prefix: Option<Name>, value: &[u8]) -> Verdict
+#[tactic(auto, unfolding(names::specs::BuiltIn::xml_uri, names::specs::BuiltIn::xmlns_uri))]
+fn verdict_of(tag: &[Binding], prefix: Option<Name>, value: &[u8]) -> Result<Effect, ErrorCode>
     ensures { result ≡ weighed tag.now prefix value.now }
 {
-    if is_xmlns_uri(value) {
-        return Verdict::Rejected(ErrorCode::XmlnsUriDeclared);
+    if value == XMLNS_URI {
+        return Err(ErrorCode::XmlnsUriDeclared);
     }
-    if is_named(prefix, Name::XML) {
-        return if is_xml_uri(value) {
-            Verdict::NoEffect
+    if prefix == Some(Name::XML) {
+        return if value == XML_URI {
+            Ok(Effect::Nothing)
         } else {
-            Verdict::Rejected(ErrorCode::XmlPrefixDeclared)
+            Err(ErrorCode::XmlPrefixDeclared)
         };
     }
-    if is_named(prefix, Name::XMLNS) {
-        return Verdict::Rejected(ErrorCode::XmlnsPrefixDeclared);
+    if prefix == Some(Name::XMLNS) {
+        return Err(ErrorCode::XmlnsPrefixDeclared);
     }
-    if is_xml_uri(value) {
-        return Verdict::Rejected(ErrorCode::XmlPrefixDeclared);
+    if value == XML_URI {
+        return Err(ErrorCode::XmlPrefixDeclared);
     }
     if is_bound(tag, prefix) {
-        return Verdict::Rejected(ErrorCode::DeclaredTwice);
+        return Err(ErrorCode::DeclaredTwice);
     }
     if value.is_empty() {
-        Verdict::Undeclares
+        Ok(Effect::Undeclares)
     } else {
-        Verdict::Binds
+        Ok(Effect::Binds)
     }
 }
 
-// Weighs the declaration of `prefix` by its value. `tag` has the declarations of the same tag that were accepted before
-// it.
-pub fn weigh(tag: &[Binding], prefix: Option<Name>, value: &[u8]) -> Verdict
+// Weighs the declaration of `prefix` by its value: what it does, or the error that is noted. `tag` has the declarations
+// of the same tag that were accepted before it.
+pub fn weigh(tag: &[Binding], prefix: Option<Name>, value: &[u8]) -> Result<Effect, ErrorCode>
     ensures value { result ≡ weighed tag.now prefix value.now }
     ensures unreserved { AcceptsUnreserved tag.now prefix value.now result }
 {

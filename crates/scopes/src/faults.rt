@@ -1,6 +1,8 @@
 // Why a table of bindings is not changed.
 ghost use Rattle.std.specs.Prelude.{◌≡◌};
-ghost use Rattle.scopes.specs.Faults.{number_of};
+ghost use Rattle.scopes.specs.Faults.{code_of};
+
+use names::RefusalCode;
 
 // The first two are limits that a document can meet. The others are mistakes of the caller.
 #[derive(Clone, Copy)]
@@ -12,15 +14,14 @@ pub enum ScopeFault {
 }
 
 impl ScopeFault {
-    // The number of the refusal that the layers above make of it. A caller's mistake has none.
-    pub fn number(self) -> Option<u8>
-        ensures { result ≡ number_of self }
+    // The refusal that the layers above make of it. A caller's mistake is none.
+    pub fn code(self) -> Option<RefusalCode>
+        ensures { result ≡ code_of self }
     {
         match self {
-            ScopeFault::TooManyRows => Some(8),
-            ScopeFault::TooManyBindings => Some(9),
-            ScopeFault::Reserved => None,
-            ScopeFault::NoOpenRow => None,
+            ScopeFault::TooManyRows => Some(RefusalCode::TooManyOpen),
+            ScopeFault::TooManyBindings => Some(RefusalCode::TooManyBindings),
+            ScopeFault::Reserved | ScopeFault::NoOpenRow => None,
         }
     }
 }

@@ -5,13 +5,10 @@ mod bindings;
 mod declarations;
 mod faults;
 mod prefixes;
-mod rows;
-mod scope_table;
-mod serializer_scopes;
+mod stack;
+mod tables;
 
 pub use bindings::{Binding, Found, Lookup};
-pub use declarations::{Role, Verdict, role_of, weigh};
+pub use declarations::{Declares, Effect, role_of, weigh};
 pub use faults::ScopeFault;
-pub use rows::MOST_BINDINGS;
-pub use scope_table::ScopeTable;
-pub use serializer_scopes::SerializerScopes;
+pub use tables::{MOST_BINDINGS, ScopeTable, Scopes, SerializerScopes};

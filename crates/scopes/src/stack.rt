@@ -1,0 +1,32 @@
+// A list of at most N items that is a plain value: it is copied whole, and changed by making another.
+ghost use Rattle.std.specs.Prelude.{◌≡◌, ◌≤◌, take};
+ghost use Rattle.scopes.specs.Pushing.{pushed};
+
+// The first `len` of the items count. There is no heap here, so a vector cannot take its place.
+#[derive(Clone, Copy)]
+pub(crate) struct Stack<T, const N: usize> {
+    pub(crate) items: [T; N],
+    pub(crate) len: usize,
+}
+
+impl<T: Copy, const N: usize> Stack<T, N> {
+    pub(crate) fn as_slice(&self) -> &[T]
+        requires { self.now.len ≤ N }
+        ensures { result.now ≡ take self.now.len self.now.items }
+    {
+        &self.items[..self.len]
+    }
+
+    // The same with one item more, if there is room for it.
+    pub(crate) fn push(self, item: T) -> Option<Stack<T, N>>
+        ensures { result ≡ pushed N self item }
+    {
+        if self.len >= N {
+            return None;
+        }
+        let mut stack = self;
+        stack.items[self.len] = item;
+        stack.len += 1;
+        Some(stack)
+    }
+}
