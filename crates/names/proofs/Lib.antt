@@ -1,4 +1,3 @@
 pub mod Cutting
 pub mod Seeking
 pub mod Storing
-pub mod Entering

@@ -1,6 +1,5 @@
 -- One step of the search for a text, and what finding none means. Assumes nothing.
-use Rattle.std.proofs.Common.{◌≡◌, ℕ, zero, suc, ◌+◌, ◌<◌, Bool, true, false, cond, not, ltb, List, [], ◌∷◌, ◌++◌, length, get_or, drop, Some, None, Decides, sym, refl, ap, ◌∙◌, inl, inr, add-zero, zero-add, arith}
-use Rattle.std.specs.List.{between}
+use Rattle.std.proofs.Common.{◌≡◌, ℕ, zero, suc, ◌+◌, ◌<◌, true, false, not, ltb, List, [], ◌∷◌, ◌++◌, length, get_or, drop, Some, None, sym, refl, ap, ◌∙◌, inl, inr, add-zero, zero-add, arith}
 use Rattle.std.specs.Str.{bytes_eq}
 use Rattle.std.proofs.lemmas.Slice.Eq.{bytes_eq-Decides}
 use Rattle.std.proofs.lemmas.Bool.Decides.{same_from_decides}
@@ -8,7 +7,7 @@ use Rattle.std.proofs.lemmas.List.{drop_more}
 use Rattle.std.proofs.lemmas.Bool.{and_parts, and_from, or_parts, or_from, or_left, or_right, not-true, not_from_false, cond-true, cond-false, cases_Bool, both_ways, false≢true, lt-ltb, ltb-true}
 use Rattle.names.specs.declared.qualified.Name.{Name}
 use Rattle.names.specs.Names.{numbered}
-use Rattle.names.specs.Cuts.{chained, cuts}
+use Rattle.names.specs.Cuts.{chained}
 use Rattle.names.specs.Texts.{seek, contains, distinct, begins, text_at, NumberOf}
 use Rattle.names.proofs.Cutting.{Front, front}
 
@@ -19,34 +18,15 @@ front_at xs es i f n e lt h =
     let g : chained f (get_or es i 0 ∷ drop (i + 1) es) n ≡ true = ap (λ x. chained f x n) (sym (drop_more es i 0 l)) ∙ h in
     rw e (front f (get_or es i 0) (drop (i + 1) es) n g)
 
--- one comparison of the search: it ends there, or goes on
-module _ (xs es raw bs t : List ℕ) (i f : ℕ) (r : Bool) (e : xs ≡ es) (v : raw ≡ bs) (lt : i < length xs) (d : Decides r (between f (get_or xs i 0) raw ≡ t)) where
-  step : seek i (cuts f (drop i es) bs) t ≡ cond r (Some (numbered i)) (seek (i + 1) (cuts (get_or xs i 0) (drop (i + 1) es) bs) t)
-  step =
-      let l : i < length es = omega (arith, ap length e) in
-      let same : bytes_eq (between f (get_or xs i 0) bs) t ≡ r = same_from_decides _ _ (bytes_eq-Decides _ _) (rw v at d) in
-      ap (λ x. seek i (cuts f x bs) t) (drop_more es i 0 l)
-      ∙ ap (λ x. cond (bytes_eq (between f (get_or x i 0) bs) t) (Some (numbered i)) (seek (i + 1) (cuts (get_or x i 0) (drop (i + 1) es) bs) t)) (sym e)
-      ∙ ap (λ x. cond x (Some (numbered i)) (seek (i + 1) (cuts (get_or xs i 0) (drop (i + 1) es) bs) t)) same
-
-  pub seek_here : r ≡ true → seek i (cuts f (drop i es) bs) t ≡ Some (numbered i)
-  seek_here h = step ∙ cond-true r _ _ h
-
-  pub seek_on : r ≡ false → seek i (cuts f (drop i es) bs) t ≡ seek (i + 1) (cuts (get_or xs i 0) (drop (i + 1) es) bs) t
-  seek_on h = step ∙ cond-false r _ _ h
-
 same_sym : (t u : List ℕ) → bytes_eq t u ≡ bytes_eq u t
 same_sym t u = same_from_decides _ _ (bytes_eq-Decides t u) ((λ h. sym ((bytes_eq-Decides u t).0 h)), (λ e. (bytes_eq-Decides u t).1 (sym e)))
-
-never : {A : Type 0} (x : A) → None ≡ Some x → ⊥
-never x h = let z : ◌≡◌ {A = ℕ} 0 1 = cc in omega arith
 
 -- a search that finds none has passed every text
 pub none_contained : (i : ℕ) (ts : List (List ℕ)) (t : List ℕ) → None ≡ seek i ts t → contains ts t ≡ false
 none_contained i [] t h = refl
 none_contained i (u ∷ us) t h =
     elim (cases_Bool (bytes_eq u t)) [
-      | inl y ↦ absurd (never (numbered i) (h ∙ cond-true _ _ _ y))
+      | inl y ↦ let some = h ∙ cond-true _ _ _ y in cc
       | inr n ↦ or_from _ _ n (none_contained (i + 1) us t (h ∙ cond-false _ _ _ n))
     ]
 
@@ -79,7 +59,7 @@ record Place (i : ℕ) (ts : List (List ℕ)) (t : List ℕ) (n : ℕ) : Type 0 
   text : get_or ts offset [] ≡ t
 
 found_place : (i : ℕ) (ts : List (List ℕ)) (t : List ℕ) (n : ℕ) → seek i ts t ≡ Some (numbered n) → Place i ts t n
-found_place i [] t n h = absurd (never (numbered n) h)
+found_place i [] t n h = cc
 found_place i (u ∷ us) t n h =
     elim (cases_Bool (bytes_eq u t)) [
       | inl y ↦
@@ -104,7 +84,7 @@ text_found ts t n d h =
           let e : Some (get_or ts n []) ≡ Some t = sym (cond-true _ _ _ y) ∙ h in
           let text : get_or ts n [] ≡ t = cc in
           seek_at 0 ts t n d (ltb-true n (length ts) y) text ∙ ap (λ k. Some (numbered k)) (zero-add n)
-      | inr z ↦ absurd (never t (sym (cond-false _ _ _ z) ∙ h))
+      | inr z ↦ let none = sym (cond-false _ _ _ z) ∙ h in cc
     ]
 
 pub number_of : (ts : List (List ℕ)) (t : List ℕ) → distinct ts ≡ true → NumberOf ts t (seek 0 ts t)
@@ -129,9 +109,3 @@ begins_push [] ts t h = refl
 begins_push (u ∷ us) [] t h = absurd (false≢true h)
 begins_push (u ∷ us) (x ∷ xs) t h =
     let p = and_parts (bytes_eq u x) (begins us xs) h in and_from _ _ p.0 (begins_push us xs t p.1)
-
-pub begins_at : (us ts : List (List ℕ)) (n : ℕ) → begins us ts ≡ true → n < length us → get_or ts n [] ≡ get_or us n []
-begins_at [] ts n h lt = absurd (omega arith)
-begins_at (u ∷ us) [] n h lt = absurd (false≢true h)
-begins_at (u ∷ us) (x ∷ xs) zero h lt = sym ((bytes_eq-Decides u x).0 (and_parts (bytes_eq u x) (begins us xs) h).0)
-begins_at (u ∷ us) (x ∷ xs) (suc n) h lt = begins_at us xs n (and_parts (bytes_eq u x) (begins us xs) h).1 (omega arith)

@@ -2,7 +2,7 @@
 ghost use Rattle.std.specs.Prelude.{◌≡◌, ◌+◌, ◌<◌, ◌≤◌, false, [], ◌∷◌, ◌++◌, length, IfOk};
 ghost use Rattle.std.specs.Option.{option_map};
 ghost use Rattle.names.specs.Cuts.{start_of};
-ghost use Rattle.names.specs.Texts.{seek, contains, total, text_at, NumberOf};
+ghost use Rattle.names.specs.Texts.{seek, contains, total, text_at};
 ghost use Rattle.names.specs.Held.{held};
 
 use super::{MOST_BYTES, MOST_NAMES, TextStore};
@@ -47,8 +47,7 @@ impl TextStore {
 
     // The number of the text that equals `text`.
     pub(crate) fn find(&self, text: &[u8]) -> Option<Name>
-        ensures value { result ≡ seek 0 (held self.now) text.now }
-        ensures number { NumberOf (held self.now) text.now result }
+        ensures { result ≡ seek 0 (held self.now) text.now }
     {
         let mut start = 0;
         for (i, end) in self.ends.iter().enumerate() {

@@ -51,6 +51,7 @@ impl<const BUILT_IN: usize> Scopes<BUILT_IN> {
     }
 
     // How many elements are open.
+    #[tactic(auto, using(crate::proofs::Holding::row_total))]
     pub fn row_count(&self) -> usize
         ensures { result ≡ length (rows_of self.now) }
     {
@@ -58,6 +59,7 @@ impl<const BUILT_IN: usize> Scopes<BUILT_IN> {
     }
 
     // How many bindings there are, the built-in ones counted.
+    #[tactic(auto, using(crate::proofs::Holding::binding_total))]
     pub fn binding_count(&self) -> usize
         ensures { result ≡ BUILT_IN + size (rows_of self.now) }
     {
@@ -119,6 +121,7 @@ impl<const BUILT_IN: usize> Scopes<BUILT_IN> {
     }
 
     // The bindings below the rows.
+    #[tactic(auto, using(crate::proofs::Holding::bottom))]
     pub(super) fn built_in(&self) -> &[Binding]
         ensures { result.now ≡ take BUILT_IN self.now.entries.items }
     {

@@ -1,8 +1,6 @@
-use Rattle.std.proofs.Common.{sym, ◌∙◌, arith}
+use Rattle.std.proofs.Common.{sym, ◌∙◌}
 use Rattle.names.proofs.Storing.{used}
 use Rattle.names.proofs.store.TextStore.bytes.Goals as goal
 
-pub returns : goal.returns
-returns c =
-    let s = c.args.self.now in
-    record { value = c.len.ensures ∙ sym (used s); bound = omega (arith, c.len.ensures, s.short) }
+pub returns-clause-value : goal.returns-clause-value
+returns-clause-value c = c.len.ensures ∙ sym (used c.args.self.now)
