@@ -55,7 +55,7 @@ pub(crate) fn check_part(
     complete: bool,
 ) -> Result<(), Fail> {
     let report = scopes_report(rt.alloc(), listing.as_bytes())?;
-    assert!(rt; report.text.as_str().contains(part), "{}", part);
+    assert!(rt; report.text.as_str().contains(part), "{part}");
     assert_eq!(rt; report.complete, complete);
     Ok(())
 }
