@@ -10,7 +10,8 @@ use names::{Attribute, Name, NameFault, NameTable, QualName};
 // A prefix that may be absent. An absent one enters nothing.
 fn enter_prefix(names: &mut NameTable, parts: &mut Parts) -> Result<Option<Name>, NameFault>
     requires { 1 ≤ length parts.old.words }
-    ensures value { (texts names.new, result) ≡ prefix_entered (texts names.old) parts.old.text parts.old.at (slice_index parts.old.words 0) }
+    ensures value { let p = parts.old in (texts names.new, result)
+        ≡ prefix_entered (texts names.old) p.text p.at (slice_index p.words 0) }
     ensures passed { parts.new ≡ passed parts.old }
 {
     match parts.next_maybe_text() {
@@ -22,7 +23,8 @@ fn enter_prefix(names: &mut NameTable, parts: &mut Parts) -> Result<Option<Name>
 // A prefix that may be absent, and the local name behind it. The namespace is not known yet.
 pub(crate) fn enter_name(names: &mut NameTable, parts: &mut Parts) -> Result<QualName, NameFault>
     requires { 2 ≤ length parts.old.words }
-    ensures value { (texts names.new, result) ≡ name_entered (texts names.old) parts.old.text parts.old.at (slice_index parts.old.words 0) (slice_index parts.old.words 1) }
+    ensures value { let p = parts.old in (texts names.new, result)
+        ≡ name_entered (texts names.old) p.text p.at (slice_index p.words 0) (slice_index p.words 1) }
     ensures passed { OnOk result (parts.new ≡ passed (passed parts.old)) }
 {
     Ok(QualName {
@@ -35,7 +37,8 @@ pub(crate) fn enter_name(names: &mut NameTable, parts: &mut Parts) -> Result<Qua
 // One attribute: its name is entered, and of its value only the place is kept.
 fn enter_attribute(names: &mut NameTable, parts: &mut Parts) -> Result<Attribute, NameFault>
     requires { 3 ≤ length parts.old.words }
-    ensures value { (texts names.new, result) ≡ attribute_entered (texts names.old) parts.old.text parts.old.at (slice_index parts.old.words 0) (slice_index parts.old.words 1) (slice_index parts.old.words 2) }
+    ensures value { let p = parts.old in (texts names.new, result)
+        ≡ attribute_entered (texts names.old) p.text p.at (slice_index p.words 0) (slice_index p.words 1) (slice_index p.words 2) }
     ensures passed { OnOk result (parts.new ≡ passed (passed (passed parts.old))) }
 {
     Ok(Attribute {
@@ -51,7 +54,8 @@ pub(crate) fn enter_attributes(
     records: &mut [Attribute],
 ) -> Result<(), NameFault>
     requires { length parts.old.words ≡ 3 * length records.old }
-    ensures { (texts names.new, read_attributes result records.new) ≡ attributes_entered [] (texts names.old) parts.old.text parts.old.at parts.old.words }
+    ensures { let p = parts.old in (texts names.new, read_attributes result records.new)
+        ≡ attributes_entered [] (texts names.old) p.text p.at p.words }
 {
     for record in records.iter_mut() {
         *record = enter_attribute(names, parts)?;

@@ -1,7 +1,7 @@
 // Why a token is not read.
 ghost use Rattle.std.specs.Prelude.{◌≡◌};
 ghost use Rattle.tape.specs.Faults.{code_of, refusal_of};
-ghost use Rattle.tape.specs.declared.faults.TapeCause.TheVariants as cause;
+ghost use Rattle.tape.specs.declared.faults.TapeCause.TheVariants.{Names};
 
 use names::{Layer, NameFault, Refusal, RefusalCode};
 
@@ -20,7 +20,7 @@ pub enum TapeCause {
 }
 
 impl From<NameFault> for TapeCause {
-    ghost from_gives = { λ fault result. result ≡ cause.Names fault };
+    ghost from_gives = { λ fault cause. cause ≡ Names fault };
 
     fn from(fault: NameFault) -> TapeCause {
         TapeCause::Names(fault)

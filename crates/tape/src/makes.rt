@@ -43,7 +43,8 @@ fn make_tag<'t>(
     requires words { length parts.old.words ≡ 2 + 3 * count }
     requires few { count ≤ MOST_ATTRIBUTES }
     requires room { count ≤ length attrs.old }
-    ensures { made_of result (texts names.new) attrs.new ≡ tag_made kind parts.old.words parts.old.text parts.old.at (texts names.old) attrs.old }
+    ensures { let p = parts.old in made_of result (texts names.new) attrs.new
+        ≡ tag_made kind p.words p.text p.at (texts names.old) attrs.old }
 {
     let name = enter_name(names, parts)?;
     let mut records = [BLANK; MOST_ATTRIBUTES];
@@ -65,7 +66,8 @@ pub(crate) fn make_token<'t>(
 ) -> Result<Token<'t>, NameFault>
     requires words { length parts.words ≡ part_count head }
     requires few { crowded head (length attrs.old) ≡ false }
-    ensures { made_of result (texts names.new) attrs.new ≡ token_made head parts.entry.words parts.entry.text parts.entry.at (texts names.old) attrs.old }
+    ensures { let p = parts.entry in made_of result (texts names.new) attrs.new
+        ≡ token_made head p.words p.text p.at (texts names.old) attrs.old }
 {
     Ok(match head {
         Head::Tag(kind, count) => make_tag(kind, count, &mut parts, names, attrs)?,

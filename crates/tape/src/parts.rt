@@ -61,9 +61,9 @@ impl<'w, 't> Parts<'w, 't> {
         ensures text { option_map (λ x. x.now) result ≡ maybe_text self.old.text self.old.at (slice_index self.old.words 0) }
         ensures passed { self.new ≡ passed self.old }
     {
-        let is_there = is_text(self.words[0]);
+        let word = self.words[0];
         let text = self.next_text();
-        is_there.then_some(text)
+        is_text(word).then_some(text)
     }
 }
 

@@ -20,7 +20,8 @@ impl<'t> Tape<'_, 't> {
         names: &mut NameTable,
         attrs: &mut [Attribute],
     ) -> Result<Token<'t>, TapeCause>
-        ensures { taken_of result (cursor_of self.new) (texts names.new) attrs.new ≡ taken (cursor_of self.old) (texts names.old) attrs.old }
+        ensures { taken_of result (cursor_of self.new) (texts names.new) attrs.new
+            ≡ taken (cursor_of self.old) (texts names.old) attrs.old }
     {
         let Scanned { head, words, rest } = scan(self.words)?;
         if is_crowded(head, attrs.len()) {
@@ -47,7 +48,8 @@ impl<'t> Tape<'_, 't> {
         names: &mut NameTable,
         attrs: &mut [Attribute],
     ) -> Result<Token<'t>, TapeFault>
-        ensures { reading_of result (cursor_of self.new) (texts names.new) attrs.new ≡ read_token (cursor_of self.old) (texts names.old) attrs.old }
+        ensures { reading_of result (cursor_of self.new) (texts names.new) attrs.new
+            ≡ read_token (cursor_of self.old) (texts names.old) attrs.old }
     {
         let at = self.index;
         self.take_token(names, attrs)

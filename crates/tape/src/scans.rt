@@ -1,7 +1,7 @@
 // Goes over the words of a token, each of which has to be there and to be of the right kind. Nothing else is weighed.
 ghost use Rattle.std.specs.Prelude.{◌≡◌, ◌+◌, List, ◌∷◌, ◌++◌, length, IfOk};
 ghost use Rattle.tape.specs.Scans.{attribute_slots, tag_slots, slots_of, after, onward, rest_of, part_count, scanned, scan_of};
-ghost use Rattle.tape.specs.declared.words.Slot.{Slot as SlotT};
+ghost use Rattle.tape.specs.declared.words.Slot.{Slot};
 
 use crate::faults::TapeCause;
 use crate::words::{Head, Slot};
@@ -21,7 +21,7 @@ pub(crate) struct Scanned<'w> {
 
 // The words after the one that fills the slot.
 fn skip_slot(words: &[u32], slot: Slot) -> Result<&[u32], TapeCause>
-    ensures { (more : List SlotT) → after (slot ∷ more) words.now ≡ onward result more }
+    ensures { (more : List Slot) → after (slot ∷ more) words.now ≡ onward result more }
 {
     let [word, rest @ ..] = words else {
         return Err(TapeCause::NoWord);
@@ -35,7 +35,7 @@ fn skip_slot(words: &[u32], slot: Slot) -> Result<&[u32], TapeCause>
 // The words after those that fill the slots.
 fn skip_slots<'w>(words: &'w [u32], slots: &[Slot]) -> Result<&'w [u32], TapeCause>
     ensures value { rest_of result ≡ after slots.now words.now }
-    ensures more { (more : List SlotT) → after (slots.now ++ more) words.now ≡ onward result more }
+    ensures more { (more : List Slot) → after (slots.now ++ more) words.now ≡ onward result more }
 {
     let mut rest = words;
     for slot in slots {
