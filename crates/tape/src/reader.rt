@@ -2,7 +2,7 @@
 ghost use Rattle.std.specs.Prelude.{◌≡◌};
 ghost use Rattle.names.specs.Table.{texts};
 ghost use Rattle.tape.specs.Cursors.{cursor_of};
-ghost use Rattle.tape.specs.Reading.{taken, taken_of, read_token, reading_of};
+ghost use Rattle.tape.specs.Reading.{taken, read_token, reading_of};
 
 use crate::cursor::Tape;
 use crate::faults::{TapeCause, TapeFault};
@@ -20,7 +20,7 @@ impl<'t> Tape<'_, 't> {
         names: &mut NameTable,
         attrs: &mut [Attribute],
     ) -> Result<Token<'t>, TapeCause>
-        ensures { taken_of result (cursor_of self.new) (texts names.new) attrs.new
+        ensures { reading_of result (cursor_of self.new) (texts names.new) attrs.new
             ≡ taken (cursor_of self.old) (texts names.old) attrs.old }
     {
         let Scanned { head, words, rest } = scan(self.words)?;
