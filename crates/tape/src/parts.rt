@@ -8,8 +8,7 @@ use crate::words::{is_text, payload_of};
 use names::Span;
 use std::marker::Model;
 
-// The words of a token's parts that are left, and the place of the text where theirs begin: they lie there one after
-// another.
+// The words that are left of a token's parts, and the place in the text where their texts begin, one after another.
 #[derive(Drop)]
 pub(crate) struct Parts<'w, 't> {
     pub(crate) words: &'w [u32],
