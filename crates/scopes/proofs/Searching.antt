@@ -1,17 +1,18 @@
 -- The steps of the two searches: through the bindings of a row, and through the rows. Assumes nothing.
-use Rattle.std.proofs.Common.{◌≡◌, ℕ, zero, suc, ◌+◌, ◌-◌, ◌<◌, Bool, not, cond, ltb, List, [], ◌∷◌, length, get_or, drop, Some, None, Option, sym, refl, ap, ◌∙◌, inl, inr, add-zero, zero-add, arith}
+use Rattle.std.proofs.Common.{◌≡◌, ℕ, suc, ◌+◌, Bool, true, not, cond, ltb, List, [], ◌∷◌, ◌++◌, ◌≤◌, length, get_or, take, drop, Some, None, Option, sym, refl, ap, ◌∙◌, inl, inr, add-zero, zero-add, arith}
 use Rattle.std.specs.List.{between}
 use Rattle.std.specs.Option.{option_or, option_map}
 use Rattle.std.specs.List.{position, position_or_len}
 use Rattle.std.proofs.lemmas.Bool.{cond-true, cond-false, cases_Bool, ltb-true, ltb-false}
-use Rattle.std.proofs.lemmas.List.{drop_more, drop_all}
+use Rattle.std.proofs.Math.Seq.{take-suc, take-append_seam}
+use Rattle.std.proofs.lemmas.List.{drop_more, drop_all, length_push, length-take-le, get_or_push, take-append-le, take_all}
 use Rattle.names.specs.declared.qualified.Name.{Name}
 use Rattle.scopes.specs.declared.bindings.Binding.{Binding}
 use Rattle.scopes.specs.declared.bindings.Found.{Found}
 use Rattle.scopes.specs.Prefixes.{same}
 use Rattle.scopes.specs.Rows.{in_row, nearest}
-use Rattle.scopes.specs.Stacks.{stacked}
-use Rattle.scopes.proofs.Stacking.{length-stacked}
+use Rattle.scopes.specs.Stacks.{stacked, climbs}
+use Rattle.scopes.proofs.Stacking.{length-stacked, top}
 
 -- what is read past the end of a row
 abbrev pub blank : Binding
@@ -53,10 +54,56 @@ row_found_at k bs p r h =
       | inr z ↦ ap (first k n) (drop_all n bs (ltb-false n (length bs) z)) ∙ ap found (sym (h ∙ cond-false _ _ _ z))
     ]
 
--- the innermost of n rows
-pub rows_step : (s : List ℕ) (xs : List Binding) (n e : ℕ) (p : Option Name) → 0 < n → nearest (stacked s xs n e) p ≡ option_or (in_row (n - 1) 0 (between (get_or s (n - 1) 0) e xs) p) (nearest (stacked s xs (n - 1) (get_or s (n - 1) 0)) p)
-rows_step s xs zero e p lt = absurd (omega arith)
-rows_step s xs (suc n) e p lt =
-    let back : n ≡ suc n - 1 = omega arith in
+-- the innermost of n + 1 rows
+rows_more : (s : List ℕ) (xs : List Binding) (n e : ℕ) (p : Option Name) → nearest (stacked s xs (suc n) e) p ≡ option_or (in_row n 0 (between (get_or s n 0) e xs) p) (nearest (stacked s xs n (get_or s n 0)) p)
+rows_more s xs n e p =
     ap (λ k. option_or (in_row k 0 (between (get_or s n 0) e xs) p) (nearest (stacked s xs n (get_or s n 0)) p)) (length-stacked s xs n (get_or s n 0))
-    ∙ ap (λ k. option_or (in_row k 0 (between (get_or s k 0) e xs) p) (nearest (stacked s xs k (get_or s k 0)) p)) back
+
+-- the last of the starts that are left
+record Last (s left front : List ℕ) (start : ℕ) : Type 0 where
+  more : length left ≡ suc (length front)
+  at : start ≡ get_or s (length front) 0
+  begins : front ≡ take (length front) s
+
+last : (s left front : List ℕ) (start : ℕ) → length left ≤ length s → left ≡ front ++ start ∷ [] → left ≡ take (length left) s → Last s left front start
+last s left front start few p q =
+    let n = length front in
+    let more : length left ≡ suc n = omega (arith, ap length p, length_push front start) in
+    let whole = length-take-le n s (omega arith) in
+    let same : front ++ start ∷ [] ≡ take n s ++ get_or s n 0 ∷ [] = sym p ∙ q ∙ ap (λ k. take k s) more ∙ take-suc s n 0 (omega arith) in
+    record {
+      more = more;
+      at =
+          sym (get_or_push front start 0 n refl)
+          ∙ ap (λ l. get_or l n 0) same
+          ∙ get_or_push (take n s) (get_or s n 0) 0 n whole;
+      begins =
+          sym (take-append_seam front (start ∷ []))
+          ∙ ap (take n) same
+          ∙ take-append-le n (take n s) (get_or s n 0 ∷ []) (omega (arith, whole))
+          ∙ take_all n (take n s) (omega (arith, whole));
+    }
+
+-- the row that begins at the last of the starts that are left, and the rows around it
+pub record Innermost (b : ℕ) (s : List ℕ) (xs : List Binding) (left front : List ℕ) (start e : ℕ) (p : Option Name) : Type 0 where
+  pub few : length front ≤ length s
+  pub begins : front ≡ take (length front) s
+  pub low : start ≤ e
+  pub on : climbs b s (length front) start ≡ true
+  pub gives : nearest (stacked s xs (length left) e) p ≡ option_or (in_row (length front) 0 (between start e xs) p) (nearest (stacked s xs (length front) start) p)
+
+pub innermost : (b : ℕ) (s : List ℕ) (xs : List Binding) (left front : List ℕ) (start e : ℕ) (p : Option Name) → length left ≤ length s → left ≡ front ++ start ∷ [] → left ≡ take (length left) s → climbs b s (length left) e ≡ true → Innermost b s xs left front start e p
+innermost b s xs left front start e p few parts begins h =
+    let n = length front in
+    let l = last s left front start few parts begins in
+    let t = top b s n e (ap (λ k. climbs b s k e) (sym l.more) ∙ h) in
+    record {
+      few = omega (arith, l.more);
+      begins = l.begins;
+      low = omega (arith, t.low, l.at);
+      on = ap (climbs b s n) l.at ∙ t.on;
+      gives =
+          ap (λ k. nearest (stacked s xs k e) p) l.more
+          ∙ rows_more s xs n e p
+          ∙ ap (λ f. option_or (in_row n 0 (between f e xs) p) (nearest (stacked s xs n f) p)) (sym l.at);
+    }

@@ -1,5 +1,5 @@
 -- What a change of the arrays means for the rows that they hold. Assumes nothing.
-use Rattle.std.proofs.Common.{◌≡◌, ℕ, zero, suc, ◌+◌, ◌-◌, ◌<◌, ◌≤◌, true, ◌&&◌, leb, ◌≢◌, List, [], ◌∷◌, ◌++◌, length, get_or, take, drop, set, Ok, Err, sym, refl, ap, ◌∙◌, subst, add-one, arith, length-set}
+use Rattle.std.proofs.Common.{◌≡◌, ℕ, zero, suc, ◌+◌, ◌-◌, ◌<◌, ◌≤◌, true, ◌&&◌, leb, ◌≢◌, List, [], ◌∷◌, ◌++◌, length, get_or, take, drop, set, Ok, Err, sym, refl, ap, ◌∙◌, add-one, arith, length-set}
 use Rattle.std.specs.List.{between}
 use Rattle.std.proofs.lemmas.List.Edits.{between_none, between_more, length-between}
 use Rattle.std.proofs.lemmas.List.{get_or-set_same, get_or-set_other, take-set-le, drop-set-add}
@@ -100,9 +100,3 @@ pub add_full : (b : ℕ) (s : List ℕ) (xs : List Binding) (n e : ℕ) (y : Bin
 add_full b s xs zero e y some h ge le = absurd (some refl)
 add_full b s xs (suc n) e y some h ge le =
     sym (cond-false _ _ _ (le-ltb (b + size (stacked s xs (suc n) e)) 256 (omega (arith, size-stacked b s xs (suc n) e h le))))
-
--- a row less
-pub close_top : (b : ℕ) (s : List ℕ) (n e : ℕ) → (n ≡ 0 → ⊥) → climbs b s n e ≡ true → Top b s (n - 1) e
-close_top b s zero e some h = absurd (some refl)
-close_top b s (suc n) e some h =
-    let back : n ≡ suc n - 1 = omega arith in subst (λ k. Top b s k e) back (top b s n e h)

@@ -1,6 +1,6 @@
 -- Which names a tag enters, one by one in the order of its words: its own, then those of each attribute. Those that were
 -- entered before one is refused stay. Assumes nothing.
-use Rattle.std.specs.Prelude.{ℕ, ◌+◌, cond, List, [], ◌∷◌, ◌++◌, take, Some, None, Ok, Err, Option, Result}
+use Rattle.std.specs.Prelude.{ℕ, ◌+◌, cond, List, [], ◌∷◌, ◌++◌, ⊤, Some, None, Ok, Err, Option, Result}
 use Rattle.names.specs.Names.{numbered}
 use Rattle.names.specs.Texts.{entered, after}
 use Rattle.names.specs.declared.qualified.Name.{Name}
@@ -54,6 +54,6 @@ attributes_entered done ts bs at (p ∷ l ∷ v ∷ ws) =
     attributes_entered (done ++ a ∷ []) us bs (at + payload_of p + payload_of l + payload_of v) ws)
 
 -- what the code answers: the records that it has written, or the fault
-abbrev pub read_attributes : Result ℕ NameFault → List Attribute → Result (List Attribute) NameFault
-read_attributes (Ok n) table = Ok (take n table)
-read_attributes (Err e) table = Err e
+abbrev pub read_attributes : Result ⊤ NameFault → List Attribute → Result (List Attribute) NameFault
+read_attributes (Ok done) records = Ok records
+read_attributes (Err e) records = Err e

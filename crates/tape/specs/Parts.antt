@@ -1,5 +1,5 @@
 -- The texts that the words of a token stand for: they lie one after another in the tape's text. Assumes nothing.
-use Rattle.std.specs.Prelude.{ℕ, ◌+◌, cond, List, [], ◌∷◌, Some, None, Option, nat_le}
+use Rattle.std.specs.Prelude.{ℕ, ◌+◌, cond, List, [], ◌∷◌, Some, None, Option, nat_le, slice_index, drop}
 use Rattle.std.specs.List.{between}
 use Rattle.tape.specs.Words.{payload_of, is_text}
 
@@ -19,3 +19,13 @@ text_of bs at w = between at (at + payload_of w) bs
 -- the same where the text may be absent
 abbrev pub maybe_text : List ℕ → ℕ → ℕ → Option (List ℕ)
 maybe_text bs at w = cond (is_text w) (Some (text_of bs at w)) None
+
+-- the words that are left, and the place of the text where theirs begin
+pub record PartsLeft : Type 0 where
+  pub words : List ℕ
+  pub text : List ℕ
+  pub at : ℕ
+
+-- the first of the words is passed, and so is its text
+abbrev pub passed : PartsLeft → PartsLeft
+passed p = record { words = drop 1 p.words; text = p.text; at = p.at + payload_of (slice_index p.words 0) }

@@ -9,14 +9,18 @@ use Rattle.tape.specs.declared.tokens.Token.{Token}
 use Rattle.tape.specs.Cursors.{Cursor}
 use Rattle.tape.specs.Parts.{total}
 use Rattle.tape.specs.Scans.{Scan, scanned}
-use Rattle.tape.specs.Tokens.{TokenValue, token_value, crowded, token_made}
+use Rattle.tape.specs.Tokens.{TokenValue, crowded, token_made, value_of}
 
 -- the token or what is wrong, where the reader then stands, the texts of the name table, and the attribute table
-pub record Taken : Type 0 where
-  pub answer : Result TokenValue TapeCause
+pub record Reading (E : Type 0) : Type 0 where
+  pub answer : Result TokenValue E
   pub cursor : Cursor
   pub names : List (List ℕ)
   pub table : List Attribute
+
+-- before a fault has its place
+abbrev pub Taken : Type 0
+Taken = Reading TapeCause
 
 -- a refusal that changes nothing
 abbrev pub refused : Cursor → List (List ℕ) → List Attribute → TapeCause → Taken
@@ -51,31 +55,17 @@ weighed c ts table (Ok s) =
 abbrev pub taken : Cursor → List (List ℕ) → List Attribute → Taken
 taken c ts table = weighed c ts table (scanned c.words)
 
--- the same, with the place of a fault
-pub record Reading : Type 0 where
-  pub answer : Result TokenValue TapeFault
-  pub cursor : Cursor
-  pub names : List (List ℕ)
-  pub table : List Attribute
-
 -- a fault tells the index of the token's first word
 abbrev pub placed : ℕ → Result TokenValue TapeCause → Result TokenValue TapeFault
 placed at (Ok v) = Ok v
 placed at (Err e) = Err (record { at = at; cause = e })
 
-abbrev pub reading_at : ℕ → Taken → Reading
+abbrev pub reading_at : ℕ → Taken → Reading TapeFault
 reading_at at t = record { answer = placed at t.answer; cursor = t.cursor; names = t.names; table = t.table }
 
-abbrev pub read_token : Cursor → List (List ℕ) → List Attribute → Reading
+abbrev pub read_token : Cursor → List (List ℕ) → List Attribute → Reading TapeFault
 read_token c ts table = reading_at c.index (taken c ts table)
 
 -- what the code answers and leaves
-abbrev pub value_or : {E : Type 0} → Result Token E → Result TokenValue E
-value_or (Ok t) = Ok (token_value t)
-value_or (Err e) = Err e
-
-abbrev pub taken_of : Result Token TapeCause → Cursor → List (List ℕ) → List Attribute → Taken
-taken_of r c ts table = record { answer = value_or r; cursor = c; names = ts; table = table }
-
-abbrev pub reading_of : Result Token TapeFault → Cursor → List (List ℕ) → List Attribute → Reading
-reading_of r c ts table = record { answer = value_or r; cursor = c; names = ts; table = table }
+abbrev pub reading_of : {E : Type 0} → Result Token E → Cursor → List (List ℕ) → List Attribute → Reading E
+reading_of r c ts table = record { answer = value_of r; cursor = c; names = ts; table = table }

@@ -74,7 +74,7 @@ rest_of (Ok r) = Ok r.now
 rest_of (Err e) = Err e
 
 abbrev pub scan_of : Result Scanned TapeCause → Result Scan TapeCause
-scan_of (Ok s) = Ok (record { head = s.head; parts = s.parts.now; rest = s.rest.now })
+scan_of (Ok s) = Ok (record { head = s.head; parts = s.words.now; rest = s.rest.now })
 scan_of (Err e) = Err e
 
 -- goes on behind the words that were passed

@@ -107,7 +107,7 @@ token_made head.EndOfFile ws bs at ts table = plain end_of_file ts table
 token_made head.Error ws bs at ts table = plain (parse_error (text_of bs at (slice_index ws 0))) ts table
 
 -- what the code answers and leaves
-abbrev pub value_of : Result Token NameFault → Result TokenValue NameFault
+abbrev pub value_of : {E : Type 0} → Result Token E → Result TokenValue E
 value_of (Ok t) = Ok (token_value t)
 value_of (Err e) = Err e
 

@@ -1,96 +1,64 @@
 // Enters the names of a tag into the name table.
-ghost use Rattle.std.specs.Prelude.{◌≡◌, ◌+◌, ◌*◌, ◌≤◌, [], length, IfOk};
+ghost use Rattle.std.specs.Prelude.{◌≡◌, ◌*◌, ◌≤◌, [], length, slice_index, OnOk};
 ghost use Rattle.names.specs.Table.{texts};
-ghost use Rattle.tape.specs.Words.{payload_of};
-ghost use Rattle.tape.specs.Parts.{total};
+ghost use Rattle.tape.specs.Parts.{passed};
 ghost use Rattle.tape.specs.Entering.{prefix_entered, name_entered, attribute_entered, attributes_entered, read_attributes};
 
-use crate::parts::text_of;
-use crate::words::{is_text, len_of};
-use names::{Attribute, Name, NameFault, NameTable, QualName, Span};
+use crate::parts::Parts;
+use names::{Attribute, Name, NameFault, NameTable, QualName};
 
 // A prefix that may be absent. An absent one enters nothing.
-fn enter_prefix(
-    names: &mut NameTable,
-    text: &[u8],
-    at: usize,
-    word: u32,
-) -> Result<Option<Name>, NameFault>
-    requires { at + payload_of word ≤ length text.now }
-    ensures { (texts names.new, result) ≡ prefix_entered (texts names.old) text.now at word }
+fn enter_prefix(names: &mut NameTable, parts: &mut Parts) -> Result<Option<Name>, NameFault>
+    requires { 1 ≤ length parts.old.words }
+    ensures value { let p = parts.old in (texts names.new, result)
+        ≡ prefix_entered (texts names.old) p.text p.at (slice_index p.words 0) }
+    ensures passed { parts.new ≡ passed parts.old }
 {
-    if !is_text(word) {
-        return Ok(None);
+    match parts.next_maybe_text() {
+        Some(text) => Ok(Some(names.enter(text)?)),
+        None => Ok(None),
     }
-    let name = names.enter(text_of(text, at, word))?;
-    Ok(Some(name))
 }
 
 // A prefix that may be absent, and the local name behind it. The namespace is not known yet.
-pub(crate) fn enter_name(
-    names: &mut NameTable,
-    text: &[u8],
-    at: usize,
-    prefix: u32,
-    local: u32,
-) -> Result<QualName, NameFault>
-    requires { at + payload_of prefix + payload_of local ≤ length text.now }
-    ensures { (texts names.new, result) ≡ name_entered (texts names.old) text.now at prefix local }
+pub(crate) fn enter_name(names: &mut NameTable, parts: &mut Parts) -> Result<QualName, NameFault>
+    requires { 2 ≤ length parts.old.words }
+    ensures value { let p = parts.old in (texts names.new, result)
+        ≡ name_entered (texts names.old) p.text p.at (slice_index p.words 0) (slice_index p.words 1) }
+    ensures passed { OnOk result (parts.new ≡ passed (passed parts.old)) }
 {
-    let behind = at + len_of(prefix);
-    let prefix = enter_prefix(names, text, at, prefix)?;
-    let local = names.enter(text_of(text, behind, local))?;
     Ok(QualName {
-        prefix,
+        prefix: enter_prefix(names, parts)?,
         ns: Name::EMPTY,
-        local,
+        local: names.enter(parts.next_text())?,
     })
 }
 
 // One attribute: its name is entered, and of its value only the place is kept.
-fn enter_attribute(
-    names: &mut NameTable,
-    text: &[u8],
-    at: usize,
-    prefix: u32,
-    local: u32,
-    value: u32,
-) -> Result<Attribute, NameFault>
-    requires { at + payload_of prefix + payload_of local ≤ length text.now }
-    ensures { (texts names.new, result) ≡ attribute_entered (texts names.old) text.now at prefix local value }
+fn enter_attribute(names: &mut NameTable, parts: &mut Parts) -> Result<Attribute, NameFault>
+    requires { 3 ≤ length parts.old.words }
+    ensures value { let p = parts.old in (texts names.new, result)
+        ≡ attribute_entered (texts names.old) p.text p.at (slice_index p.words 0) (slice_index p.words 1) (slice_index p.words 2) }
+    ensures passed { OnOk result (parts.new ≡ passed (passed (passed parts.old))) }
 {
-    let start = at + len_of(prefix) + len_of(local);
-    let name = enter_name(names, text, at, prefix, local)?;
     Ok(Attribute {
-        name,
-        value: Span {
-            start,
-            len: len_of(value),
-        },
+        name: enter_name(names, parts)?,
+        value: parts.next_span(),
     })
 }
 
-// The attributes of the words, written to the front of `records`, and how many there are.
+// The attributes of all parts that are left, one for each of `records`.
 pub(crate) fn enter_attributes(
     names: &mut NameTable,
-    text: &[u8],
-    at: usize,
-    words: &[u32],
+    parts: &mut Parts,
     records: &mut [Attribute],
-) -> Result<usize, NameFault>
-    requires inside { at + total words.now ≤ length text.now }
-    requires room { length words.now ≤ 3 * length records.old }
-    ensures few { IfOk result (λ n. 3 * n ≤ length words.now) }
-    ensures value { (texts names.new, read_attributes result records.new) ≡ attributes_entered [] (texts names.old) text.now at words.now }
+) -> Result<(), NameFault>
+    requires { length parts.old.words ≡ 3 * length records.old }
+    ensures { let p = parts.old in (texts names.new, read_attributes result records.new)
+        ≡ attributes_entered [] (texts names.old) p.text p.at p.words }
 {
-    let mut at = at;
-    let mut words = words;
-    let mut count = 0;
-    while let [prefix, local, value, rest @ ..] = words {
-        records[count] = enter_attribute(names, text, at, *prefix, *local, *value)?;
-        at += len_of(*prefix) + len_of(*local) + len_of(*value);
-        words = rest;
-        count += 1;
+    for record in records.iter_mut() {
+        *record = enter_attribute(names, parts)?;
     }
-    Ok(count)
+    Ok(())
 }

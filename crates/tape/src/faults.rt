@@ -1,9 +1,9 @@
 // Why a token is not read.
 ghost use Rattle.std.specs.Prelude.{◌≡◌};
-ghost use Rattle.tape.specs.Faults.{refusal_of};
-ghost use Rattle.tape.specs.declared.faults.TapeCause.TheVariants as cause;
+ghost use Rattle.tape.specs.Faults.{code_of, refusal_of};
+ghost use Rattle.tape.specs.declared.faults.TapeCause.TheVariants.{Names};
 
-use names::{Layer, NameFault, Refusal};
+use names::{Layer, NameFault, Refusal, RefusalCode};
 
 // What is wrong with a token. The fault of the name table is kept whole.
 #[derive(Clone, Copy)]
@@ -20,10 +20,24 @@ pub enum TapeCause {
 }
 
 impl From<NameFault> for TapeCause {
-    ghost from_gives = { λ e r. r ≡ cause.Names e };
+    ghost from_gives = { λ fault cause. cause ≡ Names fault };
 
     fn from(fault: NameFault) -> TapeCause {
         TapeCause::Names(fault)
+    }
+}
+
+impl From<TapeCause> for RefusalCode {
+    ghost from_gives = { λ cause code. code ≡ code_of cause };
+
+    fn from(cause: TapeCause) -> RefusalCode {
+        match cause {
+            TapeCause::WrongWord => RefusalCode::WrongWord,
+            TapeCause::NoWord => RefusalCode::NoWord,
+            TapeCause::PastText => RefusalCode::PastText,
+            TapeCause::Names(_) => RefusalCode::NamesFull,
+            TapeCause::TooManyAttributes => RefusalCode::TooManyAttributes,
+        }
     }
 }
 
@@ -34,22 +48,15 @@ pub struct TapeFault {
     pub cause: TapeCause,
 }
 
-impl TapeFault {
-    // The number of the cause, in the layer of the tape, at the token's first word.
-    pub fn refusal(self) -> Refusal
-        ensures { result ≡ refusal_of self }
-    {
-        let number = match self.cause {
-            TapeCause::WrongWord => 1,
-            TapeCause::NoWord => 2,
-            TapeCause::PastText => 3,
-            TapeCause::Names(_) => 4,
-            TapeCause::TooManyAttributes => 7,
-        };
+// The refusal of the tape's layer, at the token's first word.
+impl From<TapeFault> for Refusal {
+    ghost from_gives = { λ fault refusal. refusal ≡ refusal_of fault };
+
+    fn from(fault: TapeFault) -> Refusal {
         Refusal {
-            number,
+            code: fault.cause.into(),
             layer: Layer::Tape,
-            place: self.at as u64,
+            place: fault.at as u64,
         }
     }
 }

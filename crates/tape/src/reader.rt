@@ -2,13 +2,13 @@
 ghost use Rattle.std.specs.Prelude.{◌≡◌};
 ghost use Rattle.names.specs.Table.{texts};
 ghost use Rattle.tape.specs.Cursors.{cursor_of};
-ghost use Rattle.tape.specs.Reading.{taken, taken_of, read_token, reading_of};
+ghost use Rattle.tape.specs.Reading.{taken, read_token, reading_of};
 
 use crate::cursor::Tape;
 use crate::faults::{TapeCause, TapeFault};
 use crate::makes::{is_crowded, make_token};
-use crate::parts::end_of_texts;
-use crate::scans::scan;
+use crate::parts::{Parts, end_of_texts};
+use crate::scans::{Scanned, scan};
 use crate::tokens::Token;
 use names::{Attribute, NameTable};
 
@@ -20,25 +20,22 @@ impl<'t> Tape<'_, 't> {
         names: &mut NameTable,
         attrs: &mut [Attribute],
     ) -> Result<Token<'t>, TapeCause>
-        ensures { taken_of result (cursor_of self.new) (texts names.new) attrs.new ≡ taken (cursor_of self.old) (texts names.old) attrs.old }
+        ensures { reading_of result (cursor_of self.new) (texts names.new) attrs.new
+            ≡ taken (cursor_of self.old) (texts names.old) attrs.old }
     {
-        let scanned = scan(self.words)?;
-        if is_crowded(scanned.head, attrs.len()) {
+        let Scanned { head, words, rest } = scan(self.words)?;
+        if is_crowded(head, attrs.len()) {
             return Err(TapeCause::TooManyAttributes);
         }
-        let Some(end) = end_of_texts(scanned.parts, self.position, self.text.len()) else {
-            return Err(TapeCause::PastText);
+        let end = end_of_texts(words, self.position, self.text.len()).ok_or(TapeCause::PastText)?;
+        let parts = Parts {
+            words,
+            text: self.text,
+            at: self.position,
         };
-        let token = make_token(
-            scanned.head,
-            scanned.parts,
-            self.text,
-            self.position,
-            names,
-            attrs,
-        )?;
-        self.words = scanned.rest;
-        self.index += 1 + scanned.parts.len();
+        let token = make_token(head, parts, names, attrs)?;
+        self.words = rest;
+        self.index += 1 + words.len();
         self.position = end;
         Ok(token)
     }
@@ -51,12 +48,11 @@ impl<'t> Tape<'_, 't> {
         names: &mut NameTable,
         attrs: &mut [Attribute],
     ) -> Result<Token<'t>, TapeFault>
-        ensures { reading_of result (cursor_of self.new) (texts names.new) attrs.new ≡ read_token (cursor_of self.old) (texts names.old) attrs.old }
+        ensures { reading_of result (cursor_of self.new) (texts names.new) attrs.new
+            ≡ read_token (cursor_of self.old) (texts names.old) attrs.old }
     {
         let at = self.index;
-        match self.take_token(names, attrs) {
-            Ok(token) => Ok(token),
-            Err(cause) => Err(TapeFault { at, cause }),
-        }
+        self.take_token(names, attrs)
+            .map_err(|cause| TapeFault { at, cause })
     }
 }

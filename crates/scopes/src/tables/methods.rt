@@ -134,8 +134,8 @@ impl<const BUILT_IN: usize> Scopes<BUILT_IN> {
         ensures scoped { Answered (rows_of self.now) prefix result }
     {
         let mut end = self.entries.len;
-        for row in (0..self.starts.len).rev() {
-            let start = self.starts.items[row];
+        for (row, start) in self.starts.as_slice().iter().enumerate().rev() {
+            let start = *start;
             if let Some(found) = find_in(row, &self.entries.items[start..end], prefix) {
                 return Some(found);
             }
