@@ -130,16 +130,14 @@ impl View<'_> {
     // An attribute without a prefix has no namespace, and is not looked up.
     fn resolve_attribute(self, name: QualName) -> Resolved {
         let item = Item::Attribute;
-        match name.prefix {
-            Some(_) => self.resolve(item, name),
-            None => {
-                Resolved {
-                    item,
-                    name,
-                    origin: Err(Absence::NoPrefix),
-                    error: None,
-                }
-            }
+        if name.prefix.is_some() {
+            return self.resolve(item, name);
+        }
+        Resolved {
+            item,
+            name,
+            origin: Err(Absence::NoPrefix),
+            error: None,
         }
     }
 

@@ -49,10 +49,7 @@ impl Tally {
     }
 
     pub(crate) fn note_error(&mut self, error: Option<ErrorCode>) -> Result<(), AllocError> {
-        if let Some(code) = error {
-            self.errors.push(code)?;
-        }
-        Ok(())
+        self.errors.extend(error)
     }
 
     // An attribute without a prefix is meant to have no namespace, so it is no stray.
