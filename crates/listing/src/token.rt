@@ -10,6 +10,11 @@ pub enum ListedKind {
 
 // The keyword of such a tag.
 impl fmt::Display for ListedKind {
+    ghost use Rattle.std.specs.Prelude.{Some};
+    ghost use Rattle.listing.specs.Kinds.{keyword};
+
+    ghost output = { λ kind. Some (keyword kind) };
+
     fn fmt<W: fmt::Write>(&self, f: &mut fmt::Formatter<W>) -> fmt::Result {
         f.write_str(match self {
             ListedKind::Start => "start",
