@@ -20,9 +20,9 @@ pub enum Expected {
     LineEnd,
 }
 
-impl Expected {
-    fn words(self) -> &'static str {
-        match self {
+impl fmt::Display for Expected {
+    fn fmt<W: fmt::Write>(&self, f: &mut fmt::Formatter<W>) -> fmt::Result {
+        f.write_str(match self {
             Expected::Keyword => {
                 "a keyword: start, end, empty, short, comment, text, instruction, doctype, null, eof or error"
             }
@@ -35,13 +35,7 @@ impl Expected {
             Expected::HexDigits => "two hex digits after \\x",
             Expected::EscapeLetter => "one of \\ \" : = n t r e x after \\",
             Expected::LineEnd => "nothing more on this line",
-        }
-    }
-}
-
-impl fmt::Display for Expected {
-    fn fmt<W: fmt::Write>(&self, f: &mut fmt::Formatter<W>) -> fmt::Result {
-        f.write_str(self.words())
+        })
     }
 }
 

@@ -3,28 +3,19 @@ ghost use Rattle.std.specs.Prelude.{◌≡◌, ◌<◌, length};
 ghost use Rattle.std.specs.Iterator.{at_most};
 ghost use Rattle.std.specs.Option.{option_map};
 ghost use Rattle.listing.specs.Ends.{EndsAt, without_return, FirstLine, GivesLine};
+ghost use Rattle.listing.specs.Lines.{text_left};
 
 // The index of the first line feed, or the length of the text where there is none.
 fn line_end(text: &[u8]) -> usize
     ensures { EndsAt text.now result }
 {
-    for (i, b) in text.iter().enumerate() {
-        if *b == b'\n' {
-            return i;
-        }
-    }
-    text.len()
+    text.iter().position(|b| *b == b'\n').unwrap_or(text.len())
 }
 
 fn without_return(line: &[u8]) -> &[u8]
     ensures { result.now ≡ without_return line.now }
 {
-    let n = line.len();
-    if n > 0 && line[n - 1] == b'\r' {
-        &line[0..n - 1]
-    } else {
-        line
-    }
+    line.strip_suffix(b"\r").unwrap_or(line)
 }
 
 // The first line of the text, and what follows it. The line comes without the line feed that ends it and without a
@@ -34,12 +25,8 @@ pub fn next_line(text: &[u8]) -> (&[u8], &[u8])
     ensures shorter { 0 < length text.now → length result.1.now < length text.now }
 {
     let end = line_end(text);
-    let line = without_return(&text[0..end]);
-    if end < text.len() {
-        (line, &text[end + 1..])
-    } else {
-        (line, &text[end..])
-    }
+    let rest = text.get(end + 1..).unwrap_or(&[]);
+    (without_return(&text[..end]), rest)
 }
 
 // The lines of a text in their order, each as `next_line` gives it. A line feed at the end of the text begins no
@@ -52,9 +39,9 @@ pub struct Lines<'a> {
 impl<'a> Iterator for Lines<'a> {
     type Item = &'a [u8];
 
-    ghost next_gives = { λ s r t. GivesLine s.rest.now (option_map (λ x. x.now) r) t.rest.now };
+    ghost next_gives = { λ s r t. GivesLine (text_left s) (option_map (λ x. x.now) r) (text_left t) };
 
-    ghost remaining = { λ s. at_most (length s.rest.now) };
+    ghost remaining = { λ s. at_most (length (text_left s)) };
 
     fn next(&mut self) -> Option<&'a [u8]> {
         if self.rest.is_empty() {
@@ -67,7 +54,7 @@ impl<'a> Iterator for Lines<'a> {
 }
 
 pub fn lines_of(text: &[u8]) -> Lines<'_>
-    ensures { result.rest.now ≡ text.now }
+    ensures { text_left result ≡ text.now }
 {
     Lines { rest: text }
 }

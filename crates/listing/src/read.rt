@@ -4,10 +4,9 @@ ghost use Rattle.listing.specs.Skips.{is_blank, indent, is_skipped};
 
 use crate::fault::{Expected, ListingFault};
 use crate::pieces::{Piece, read_pieces};
-use crate::signs::{Sign, read_signs};
+use crate::signs::{Sign, bytes_of, read_signs};
 use crate::token::{ListedAttribute, ListedKind, ListedName, ListedTag, ListedToken};
-use std::alloc::Global;
-use std::mem;
+use std::alloc::{AllocError, Global};
 use std::vec::IntoIter;
 
 #[derive(Clone, Copy)]
@@ -23,20 +22,24 @@ enum Keyword {
     Error,
 }
 
-fn keyword_of(word: &[u8]) -> Option<Keyword> {
-    match word {
-        b"start" => Some(Keyword::Tag(ListedKind::Start)),
-        b"end" => Some(Keyword::Tag(ListedKind::End)),
-        b"empty" => Some(Keyword::Tag(ListedKind::Empty)),
-        b"short" => Some(Keyword::Short),
-        b"comment" => Some(Keyword::Comment),
-        b"text" => Some(Keyword::Text),
-        b"instruction" => Some(Keyword::Instruction),
-        b"doctype" => Some(Keyword::Doctype),
-        b"null" => Some(Keyword::Null),
-        b"eof" => Some(Keyword::Eof),
-        b"error" => Some(Keyword::Error),
-        _ => None,
+impl TryFrom<&[u8]> for Keyword {
+    type Error = Expected;
+
+    fn try_from(word: &[u8]) -> Result<Keyword, Expected> {
+        match word {
+            b"start" => Ok(Keyword::Tag(ListedKind::Start)),
+            b"end" => Ok(Keyword::Tag(ListedKind::End)),
+            b"empty" => Ok(Keyword::Tag(ListedKind::Empty)),
+            b"short" => Ok(Keyword::Short),
+            b"comment" => Ok(Keyword::Comment),
+            b"text" => Ok(Keyword::Text),
+            b"instruction" => Ok(Keyword::Instruction),
+            b"doctype" => Ok(Keyword::Doctype),
+            b"null" => Ok(Keyword::Null),
+            b"eof" => Ok(Keyword::Eof),
+            b"error" => Ok(Keyword::Error),
+            _ => Err(Expected::Keyword),
+        }
     }
 }
 
@@ -51,128 +54,109 @@ fn blank_count(line: &[u8]) -> usize
     ensures value { result ≡ indent line.now }
     ensures within { result ≤ length line.now }
 {
-    for (i, b) in line.iter().enumerate() {
-        if !is_blank(*b) {
-            return i;
-        }
-    }
-    line.len()
+    line.iter().take_while(|b| is_blank(**b)).count()
 }
 
 fn split_word(line: &[u8]) -> (&[u8], &[u8]) {
-    for (i, b) in line.iter().enumerate() {
-        if is_blank(*b) {
-            return line.split_at(i);
-        }
-    }
-    (line, &[])
+    let end = line.iter().position(|b| is_blank(*b)).unwrap_or(line.len());
+    line.split_at(end)
 }
 
 // The first colon that is not escaped ends the prefix.
-fn name_of(heap: Global, word: &[Sign]) -> Result<ListedName, ListingFault> {
-    let mut prefix = None;
-    let mut local = Vec::new(heap);
-    for sign in word {
-        match *sign {
-            Sign::Plain(b':') if prefix.is_none() => {
-                prefix = Some(mem::replace(&mut local, Vec::new(heap)));
-            }
-            Sign::Plain(b) | Sign::Escaped(b) => local.push(b)?,
-            Sign::Nothing => {}
-        }
-    }
-    Ok(ListedName { prefix, local })
-}
-
-fn tag_name(heap: Global, pieces: &mut IntoIter<Piece>) -> Result<ListedName, ListingFault> {
-    match pieces.next() {
-        Some(Piece::Word(word)) => name_of(heap, word.as_slice()),
-        _ => Err(ListingFault::Expected(Expected::Name)),
+fn name_of(heap: Global, word: &[Sign]) -> Result<ListedName, AllocError> {
+    let colon = word
+        .iter()
+        .position(|sign| matches!(sign, Sign::Plain(b':')));
+    match colon {
+        Some(i) => Ok(ListedName {
+            prefix: Some(bytes_of(heap, &word[..i])?),
+            local: bytes_of(heap, &word[i + 1..])?,
+        }),
+        None => Ok(ListedName {
+            prefix: None,
+            local: bytes_of(heap, word)?,
+        }),
     }
 }
 
 fn attribute(heap: Global, piece: Piece) -> Result<ListedAttribute, ListingFault> {
     match piece {
-        Piece::Attribute(word, value) => {
-            let name = name_of(heap, word.as_slice())?;
-            Ok(ListedAttribute { name, value })
-        }
-        _ => Err(ListingFault::Expected(Expected::AttributeForm)),
+        Piece::Attribute(name, value) => Ok(ListedAttribute {
+            name: name_of(heap, name)?,
+            value: bytes_of(heap, value)?,
+        }),
+        _ => Err(Expected::AttributeForm.into()),
     }
 }
 
-fn attributes(
+// The pieces of a line that are still to be read.
+#[derive(Drop)]
+struct Pieces<'a> {
     heap: Global,
-    pieces: &mut IntoIter<Piece>,
-) -> Result<Vec<ListedAttribute>, ListingFault> {
-    let mut attrs = Vec::new(heap);
-    for piece in pieces {
-        attrs.push(attribute(heap, piece)?)?;
-    }
-    Ok(attrs)
+    rest: IntoIter<Piece<'a>>,
 }
 
-fn quoted(pieces: &mut IntoIter<Piece>) -> Result<Vec<u8>, ListingFault> {
-    match pieces.next() {
-        Some(Piece::Text(text)) => Ok(text),
-        _ => Err(ListingFault::Expected(Expected::QuotedText)),
-    }
-}
-
-fn quoted_or_absent(pieces: &mut IntoIter<Piece>) -> Result<Option<Vec<u8>>, ListingFault> {
-    match pieces.next() {
-        Some(Piece::Text(text)) => Ok(Some(text)),
-        Some(Piece::Word(word)) => absent(word.as_slice()),
-        _ => Err(ListingFault::Expected(Expected::QuotedOrAbsent)),
-    }
-}
-
-fn absent(word: &[Sign]) -> Result<Option<Vec<u8>>, ListingFault> {
-    match word {
-        [Sign::Plain(b'-')] => Ok(None),
-        _ => Err(ListingFault::Expected(Expected::QuotedOrAbsent)),
-    }
-}
-
-fn line_end(pieces: &mut IntoIter<Piece>) -> Result<(), ListingFault> {
-    match pieces.next() {
-        None => Ok(()),
-        Some(_) => Err(ListingFault::Expected(Expected::LineEnd)),
-    }
-}
-
-fn token_of(
-    heap: Global,
-    keyword: Keyword,
-    pieces: &mut IntoIter<Piece>,
-) -> Result<ListedToken, ListingFault> {
-    match keyword {
-        Keyword::Tag(kind) => {
-            let name = tag_name(heap, pieces)?;
-            let attrs = attributes(heap, pieces)?;
-            Ok(ListedToken::Tag(ListedTag { kind, name, attrs }))
+impl Pieces<'_> {
+    fn name(&mut self) -> Result<ListedName, ListingFault> {
+        match self.rest.next() {
+            Some(Piece::Word(word)) => Ok(name_of(self.heap, word)?),
+            _ => Err(Expected::Name.into()),
         }
-        Keyword::Short => Ok(ListedToken::ShortTag),
-        Keyword::Comment => Ok(ListedToken::Comment(quoted(pieces)?)),
-        Keyword::Text => Ok(ListedToken::Characters(quoted(pieces)?)),
-        Keyword::Instruction => {
-            let target = quoted(pieces)?;
-            let data = quoted(pieces)?;
-            Ok(ListedToken::Instruction { target, data })
+    }
+
+    fn attributes(&mut self) -> Result<Vec<ListedAttribute>, ListingFault> {
+        let heap = self.heap;
+        self.rest
+            .by_ref()
+            .map(|piece| attribute(heap, piece))
+            .try_collect(heap)
+    }
+
+    fn quoted(&mut self) -> Result<Vec<u8>, ListingFault> {
+        match self.rest.next() {
+            Some(Piece::Text(text)) => Ok(bytes_of(self.heap, text)?),
+            _ => Err(Expected::QuotedText.into()),
         }
-        Keyword::Doctype => {
-            let name = quoted_or_absent(pieces)?;
-            let public = quoted_or_absent(pieces)?;
-            let system = quoted_or_absent(pieces)?;
-            Ok(ListedToken::Doctype {
-                name,
-                public,
-                system,
-            })
+    }
+
+    fn quoted_or_absent(&mut self) -> Result<Option<Vec<u8>>, ListingFault> {
+        match self.rest.next() {
+            Some(Piece::Text(text)) => Ok(Some(bytes_of(self.heap, text)?)),
+            Some(Piece::Word([Sign::Plain(b'-')])) => Ok(None),
+            _ => Err(Expected::QuotedOrAbsent.into()),
         }
-        Keyword::Null => Ok(ListedToken::NullCharacter),
-        Keyword::Eof => Ok(ListedToken::EndOfFile),
-        Keyword::Error => Ok(ListedToken::Error(quoted(pieces)?)),
+    }
+
+    fn end(&mut self) -> Result<(), Expected> {
+        match self.rest.next() {
+            None => Ok(()),
+            Some(_) => Err(Expected::LineEnd),
+        }
+    }
+
+    fn token(&mut self, keyword: Keyword) -> Result<ListedToken, ListingFault> {
+        match keyword {
+            Keyword::Tag(kind) => Ok(ListedToken::Tag(ListedTag {
+                kind,
+                name: self.name()?,
+                attrs: self.attributes()?,
+            })),
+            Keyword::Short => Ok(ListedToken::ShortTag),
+            Keyword::Comment => Ok(ListedToken::Comment(self.quoted()?)),
+            Keyword::Text => Ok(ListedToken::Characters(self.quoted()?)),
+            Keyword::Instruction => Ok(ListedToken::Instruction {
+                target: self.quoted()?,
+                data: self.quoted()?,
+            }),
+            Keyword::Doctype => Ok(ListedToken::Doctype {
+                name: self.quoted_or_absent()?,
+                public: self.quoted_or_absent()?,
+                system: self.quoted_or_absent()?,
+            }),
+            Keyword::Null => Ok(ListedToken::NullCharacter),
+            Keyword::Eof => Ok(ListedToken::EndOfFile),
+            Keyword::Error => Ok(ListedToken::Error(self.quoted()?)),
+        }
     }
 }
 
@@ -180,13 +164,12 @@ fn token_of(
 // listing at all is told so, and not that an escape or a quote is wrong in it.
 fn read_line(heap: Global, line: &[u8]) -> Result<ListedToken, ListingFault> {
     let (word, rest) = split_word(&line[blank_count(line)..]);
-    let Some(keyword) = keyword_of(word) else {
-        return Err(ListingFault::Expected(Expected::Keyword));
-    };
+    let keyword = Keyword::try_from(word)?;
     let signs = read_signs(heap, rest)?;
-    let mut pieces = read_pieces(heap, signs.as_slice())?.into_iter();
-    let token = token_of(heap, keyword, &mut pieces)?;
-    line_end(&mut pieces)?;
+    let rest = read_pieces(heap, signs.as_slice())?.into_iter();
+    let mut pieces = Pieces { heap, rest };
+    let token = pieces.token(keyword)?;
+    pieces.end()?;
     Ok(token)
 }
 
@@ -194,12 +177,7 @@ fn read_line(heap: Global, line: &[u8]) -> Result<ListedToken, ListingFault> {
 fn is_skipped(line: &[u8]) -> bool
     ensures { result ≡ is_skipped line.now }
 {
-    let start = blank_count(line);
-    if start < line.len() {
-        line[start] == b'#'
-    } else {
-        true
-    }
+    matches!(line.get(blank_count(line)), None | Some(b'#'))
 }
 
 // The token of a line, given without its line ending; `None` for a blank line and for a comment, and for no other.
@@ -208,8 +186,8 @@ pub fn read_token(heap: Global, line: &[u8]) -> Result<Option<ListedToken>, List
     ensures reads { result ≡ Ok None → is_skipped line.now ≡ true }
 {
     if is_skipped(line) {
-        return Ok(None);
+        Ok(None)
+    } else {
+        read_line(heap, line).map(Some)
     }
-    let token = read_line(heap, line)?;
-    Ok(Some(token))
 }

@@ -12,10 +12,7 @@ fn show_char<W: fmt::Write>(c: char, f: &mut fmt::Formatter<W>) -> fmt::Result {
         '\n' => f.write_str("\\n"),
         '\t' => f.write_str("\\t"),
         '\r' => f.write_str("\\r"),
-        '\0'..='\x1f' | '\x7f' => {
-            let code = u32::from(c);
-            write!(f, "\\x{code:02x}")
-        }
+        _ if c.is_ascii_control() => write!(f, "\\x{:02x}", u32::from(c)),
         _ => f.write_char(c),
     }
 }
@@ -28,9 +25,8 @@ fn show_text<W: fmt::Write>(text: &str, f: &mut fmt::Formatter<W>) -> fmt::Resul
 }
 
 fn show_bytes<W: fmt::Write>(bytes: &[u8], f: &mut fmt::Formatter<W>) -> fmt::Result {
-    for b in bytes {
-        let b = *b;
-        if b < 128 {
+    for &b in bytes {
+        if b.is_ascii() {
             show_char(char::from(b), f)?;
         } else {
             write!(f, "\\x{b:02x}")?;

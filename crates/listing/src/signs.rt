@@ -1,6 +1,8 @@
 // Undoes the escapes of a line, and keeps apart which bytes were written by one.
+ghost use Rattle.std.specs.Prelude.{◌≤◌, length, IfOk};
+
 use crate::fault::{Expected, ListingFault};
-use std::alloc::Global;
+use std::alloc::{AllocError, Global};
 
 // A byte of a line as its writer meant it. Only a plain one can be a quote, a blank, an `=` or a colon that separates.
 #[derive(Clone, Copy)]
@@ -11,70 +13,55 @@ pub(crate) enum Sign {
     Nothing,
 }
 
-// How far into an escape the reader is.
-#[derive(Clone, Copy)]
-enum Escape {
-    Outside,
-    Letter,
-    FirstDigit,
-    LastDigit(u8),
+impl Sign {
+    fn byte(self) -> Option<u8> {
+        match self {
+            Sign::Plain(b) | Sign::Escaped(b) => Some(b),
+            Sign::Nothing => None,
+        }
+    }
 }
 
-#[derive(Clone, Copy)]
-enum Step {
-    Read(Sign),
-    Within(Escape),
+// The bytes that the signs stand for.
+pub(crate) fn bytes_of(heap: Global, signs: &[Sign]) -> Result<Vec<u8>, AllocError> {
+    signs.iter().filter_map(|sign| sign.byte()).collect(heap)
 }
 
 fn hex_digit(b: u8) -> Result<u8, Expected> {
-    match b {
-        b'0'..=b'9' => Ok(b - b'0'),
-        b'a'..=b'f' => Ok(b - b'a' + 10),
-        b'A'..=b'F' => Ok(b - b'A' + 10),
-        _ => Err(Expected::HexDigits),
-    }
+    let digit = char::from(b).to_digit(16).ok_or(Expected::HexDigits)?;
+    Ok(digit as u8)
 }
 
-fn escape_letter(b: u8) -> Result<Step, Expected> {
-    match b {
-        b'\\' | b'"' | b':' | b'=' => Ok(Step::Read(Sign::Escaped(b))),
-        b'n' => Ok(Step::Read(Sign::Escaped(b'\n'))),
-        b't' => Ok(Step::Read(Sign::Escaped(b'\t'))),
-        b'r' => Ok(Step::Read(Sign::Escaped(b'\r'))),
-        b'e' => Ok(Step::Read(Sign::Nothing)),
-        b'x' => Ok(Step::Within(Escape::FirstDigit)),
+// The sign that an escape stands for, and what follows it. The bytes begin after its backslash.
+fn escaped(bytes: &[u8]) -> Result<(Sign, &[u8]), Expected>
+    ensures { IfOk result (λ r. length r.1.now ≤ length bytes.now) }
+{
+    match bytes {
+        [b @ (b'\\' | b'"' | b':' | b'='), rest @ ..] => Ok((Sign::Escaped(*b), rest)),
+        [b'n', rest @ ..] => Ok((Sign::Escaped(b'\n'), rest)),
+        [b't', rest @ ..] => Ok((Sign::Escaped(b'\t'), rest)),
+        [b'r', rest @ ..] => Ok((Sign::Escaped(b'\r'), rest)),
+        [b'e', rest @ ..] => Ok((Sign::Nothing, rest)),
+        [b'x', high, low, rest @ ..] => {
+            let b = hex_digit(*high)? << 4 | hex_digit(*low)?;
+            Ok((Sign::Escaped(b), rest))
+        }
+        [b'x', ..] => Err(Expected::HexDigits),
         _ => Err(Expected::EscapeLetter),
-    }
-}
-
-fn next_step(escape: Escape, b: u8) -> Result<Step, Expected> {
-    match escape {
-        Escape::Outside if b == b'\\' => Ok(Step::Within(Escape::Letter)),
-        Escape::Outside => Ok(Step::Read(Sign::Plain(b))),
-        Escape::Letter => escape_letter(b),
-        Escape::FirstDigit => Ok(Step::Within(Escape::LastDigit(hex_digit(b)?))),
-        Escape::LastDigit(high) => Ok(Step::Read(Sign::Escaped(high << 4 | hex_digit(b)?))),
     }
 }
 
 // The signs of a piece of a line, or what was expected where an escape is malformed.
 pub(crate) fn read_signs(heap: Global, bytes: &[u8]) -> Result<Vec<Sign>, ListingFault> {
     let mut signs = Vec::new(heap);
-    let mut escape = Escape::Outside;
-    for b in bytes {
-        match next_step(escape, *b)? {
-            Step::Read(sign) => {
-                signs.push(sign)?;
-                escape = Escape::Outside;
-            }
-            Step::Within(next) => escape = next,
-        }
+    let mut rest = bytes;
+    while let [first, after @ ..] = rest {
+        let (sign, after) = match *first {
+            b'\\' => escaped(after)?,
+            b => (Sign::Plain(b), after),
+        };
+        signs.push(sign)?;
+        rest = after;
     }
-    match escape {
-        Escape::Outside => Ok(signs),
-        Escape::Letter => Err(ListingFault::Expected(Expected::EscapeLetter)),
-        Escape::FirstDigit | Escape::LastDigit(_) => Err(ListingFault::Expected(
-            Expected::HexDigits,
-        )),
-    }
+    Ok(signs)
 }

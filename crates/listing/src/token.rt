@@ -1,10 +1,27 @@
 // The tokens that a listing holds.
+use std::fmt;
 
 #[derive(Clone, Copy, Debug, PartialEq, Eq)]
 pub enum ListedKind {
     Start,
     End,
     Empty,
+}
+
+// The keyword of such a tag.
+impl fmt::Display for ListedKind {
+    ghost use Rattle.std.specs.Prelude.{Some};
+    ghost use Rattle.listing.specs.Kinds.{keyword};
+
+    ghost output = { λ kind. Some (keyword kind) };
+
+    fn fmt<W: fmt::Write>(&self, f: &mut fmt::Formatter<W>) -> fmt::Result {
+        f.write_str(match self {
+            ListedKind::Start => "start",
+            ListedKind::End => "end",
+            ListedKind::Empty => "empty",
+        })
+    }
 }
 
 // An absent prefix and an empty one are two things, so the prefix is an option.

@@ -40,13 +40,12 @@ fn all_lines(rt: HostRuntime) -> Result<(), Fail> {
 #[test]
 fn numbered_lines(rt: HostRuntime) -> Result<(), Fail> {
     let lines: [&[u8]; 4] = [b"start a", b"", b"end a", b"eof"];
-    let mut count = 0usize;
-    for (i, line) in lines_of(b"start a\r\n\nend a\neof\n").enumerate() {
+    let text = b"start a\r\n\nend a\neof\n";
+    for (i, line) in lines_of(text).enumerate() {
         let wanted = lines.get(i).ok_or("a line too many")?;
         assert_eq!(rt; line, *wanted);
-        count = i.saturating_add(1);
     }
-    assert_eq!(rt; count, 4);
+    assert_eq!(rt; lines_of(text).count(), 4);
     Ok(())
 }
 

@@ -1,9 +1,8 @@
 // Writes what a line was read as, in a notation of the tests' own, so that a table can hold it.
 use listing::{
-    ListedAttribute, ListedKind, ListedName, ListedTag, ListedToken, ListingFault, Shown,
-    read_token,
+    ListedAttribute, ListedName, ListedTag, ListedToken, ListingFault, Shown, read_token,
 };
-use std::alloc::{AllocError, Global};
+use std::alloc::Global;
 use std::fmt;
 
 // A present prefix stands in braces, so that an empty one is seen.
@@ -51,11 +50,7 @@ fn write_attributes<W: fmt::Write>(
 }
 
 fn write_tag<W: fmt::Write>(tag: &ListedTag, f: &mut fmt::Formatter<W>) -> fmt::Result {
-    let kind = match tag.kind {
-        ListedKind::Start => "start",
-        ListedKind::End => "end",
-        ListedKind::Empty => "empty",
-    };
+    let kind = tag.kind;
     let name = NameOutline(&tag.name);
     write!(f, "{kind} <{name}>")?;
     write_attributes(tag.attrs.as_slice(), f)
@@ -97,14 +92,14 @@ impl fmt::Display for TokenOutline<'_> {
     }
 }
 
-pub(crate) fn outline(heap: Global, line: &[u8]) -> Result<String, AllocError> {
+pub(crate) fn outline(heap: Global, line: &[u8]) -> Result<String, ListingFault> {
     match read_token(heap, line) {
         Ok(Some(token)) => {
             let token = TokenOutline(&token);
-            format!(in heap; "{token}")
+            Ok(format!(in heap; "{token}")?)
         }
-        Ok(None) => String::from_str(heap, "skipped"),
-        Err(ListingFault::Memory) => Err(AllocError),
-        Err(ListingFault::Expected(expected)) => format!(in heap; "expected {expected}"),
+        Ok(None) => Ok(String::from_str(heap, "skipped")?),
+        Err(ListingFault::Expected(expected)) => Ok(format!(in heap; "expected {expected}")?),
+        Err(ListingFault::Memory) => Err(ListingFault::Memory),
     }
 }

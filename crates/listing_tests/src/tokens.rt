@@ -1,12 +1,12 @@
 // Tests of `read_token`: tables of lines, each with what it is read as.
 use crate::outline::outline;
-use std::alloc::Global;
+use std::alloc::AllocGlobal;
 use std::process::Abort;
 use std::test::Fail;
 
-fn check_all(rt: &impl Abort, heap: Global, cases: &[(&[u8], &str)]) -> Result<(), Fail> {
+fn check_all(rt: &(impl Abort + AllocGlobal), cases: &[(&[u8], &str)]) -> Result<(), Fail> {
     for (line, wanted) in cases {
-        let found = outline(heap, line)?;
+        let found = outline(rt.alloc(), line)?;
         assert_eq!(rt; found.as_str(), *wanted);
     }
     Ok(())
@@ -16,7 +16,6 @@ fn check_all(rt: &impl Abort, heap: Global, cases: &[(&[u8], &str)]) -> Result<(
 fn keywords(rt: HostRuntime) -> Result<(), Fail> {
     check_all(
         &rt,
-        rt.alloc(),
         &[
             (b"start job", "start <job>"),
             (b"end job", "end <job>"),
@@ -36,7 +35,6 @@ fn keywords(rt: HostRuntime) -> Result<(), Fail> {
 fn doctypes(rt: HostRuntime) -> Result<(), Fail> {
     check_all(
         &rt,
-        rt.alloc(),
         &[
             (b"doctype \"job\" - -", "doctype (job) none none"),
             (b"doctype - \"\" \"a.dtd\"", "doctype none () (a.dtd)"),
@@ -50,7 +48,6 @@ fn doctypes(rt: HostRuntime) -> Result<(), Fail> {
 fn names(rt: HostRuntime) -> Result<(), Fail> {
     check_all(
         &rt,
-        rt.alloc(),
         &[
             (b"start a:b", "start <{a}b>"),
             (b"start :b", "start <{}b>"),
@@ -70,7 +67,6 @@ fn names(rt: HostRuntime) -> Result<(), Fail> {
 fn attributes(rt: HostRuntime) -> Result<(), Fail> {
     check_all(
         &rt,
-        rt.alloc(),
         &[
             (b"empty a b=\"c\" d:e=\"\"", "empty <a> b=(c) {d}e=()"),
             (
@@ -89,7 +85,6 @@ fn attributes(rt: HostRuntime) -> Result<(), Fail> {
 fn escapes(rt: HostRuntime) -> Result<(), Fail> {
     check_all(
         &rt,
-        rt.alloc(),
         &[
             (
                 b"text \"\\\\ \\\" \\: \\= \\n \\t \\r\"",
@@ -112,7 +107,6 @@ fn escapes(rt: HostRuntime) -> Result<(), Fail> {
 fn blanks_and_comments(rt: HostRuntime) -> Result<(), Fail> {
     check_all(
         &rt,
-        rt.alloc(),
         &[
             (b"", "skipped"),
             (b" \t ", "skipped"),
@@ -149,7 +143,6 @@ const LINE_END: &str = "expected nothing more on this line";
 fn malformed_lines(rt: HostRuntime) -> Result<(), Fail> {
     check_all(
         &rt,
-        rt.alloc(),
         &[
             (b"<a href=\"\\q\">", KEYWORD),
             (b"Start a", KEYWORD),
@@ -175,7 +168,6 @@ fn malformed_lines(rt: HostRuntime) -> Result<(), Fail> {
 fn malformed_pieces(rt: HostRuntime) -> Result<(), Fail> {
     check_all(
         &rt,
-        rt.alloc(),
         &[
             (b"start a b", ATTRIBUTE),
             (b"start a \"b\"", ATTRIBUTE),

@@ -10,7 +10,8 @@ pub(crate) const MOST_NAMES: usize = 512;
 
 pub(crate) const MOST_BYTES: usize = 16384;
 
-// The bytes of the texts, and where each text ends. No text stands there twice.
+// The bytes of the texts, and where each text ends. No text stands there twice. A vector for each text would take memory
+// with each new name, and all memory is taken at the start.
 #[derive(Drop)]
 pub(crate) struct TextStore {
     bytes: Vec<u8>,

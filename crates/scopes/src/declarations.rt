@@ -11,7 +11,7 @@ use names::{ErrorCode, Name, QualName, XML_URI, XMLNS_URI};
 pub struct Declares(pub Option<Name>);
 
 // What a declaration does that is accepted.
-#[derive(Clone, Copy, PartialEq, Eq)]
+#[derive(Clone, Copy, Debug, PartialEq, Eq)]
 pub enum Effect {
     Binds,
     Undeclares,

@@ -5,7 +5,7 @@ ghost use Rattle.scopes.specs.Faults.{code_of};
 use names::RefusalCode;
 
 // The first two are limits that a document can meet. The others are mistakes of the caller.
-#[derive(Clone, Copy)]
+#[derive(Clone, Copy, Debug)]
 pub enum ScopeFault {
     TooManyRows,
     TooManyBindings,

@@ -1,6 +1,6 @@
 // Declarations: which attributes they are, and each line of the chain by which one is weighed.
 use names::{ErrorCode, Name, QualName, XML_URI, XMLNS_URI};
-use scopes::{Binding, Role, Verdict, role_of, weigh};
+use scopes::{Binding, Declares, Effect, role_of, weigh};
 
 const A: Name = Name(6);
 
@@ -12,18 +12,9 @@ fn attribute(prefix: Option<Name>, local: Name) -> QualName {
     }
 }
 
-// The error's number, or 100 for a binding, 101 for an undeclaring and 102 for no effect.
-fn outcome(verdict: Verdict) -> u8 {
-    match verdict {
-        Verdict::Binds => 100,
-        Verdict::Undeclares => 101,
-        Verdict::NoEffect => 102,
-        Verdict::Rejected(code) => code.number(),
-    }
-}
-
-fn weighed(tag: &[Binding], prefix: Option<Name>, value: &[u8]) -> u8 {
-    outcome(weigh(tag, prefix, value))
+// What the declaration does, or the number of its error.
+fn weighed(tag: &[Binding], prefix: Option<Name>, value: &[u8]) -> Result<Effect, u8> {
+    weigh(tag, prefix, value).map_err(ErrorCode::number)
 }
 
 #[test]
@@ -31,42 +22,40 @@ fn declarations_are_told_by_their_names(rt: HostRuntime) {
     assert!(rt;
         matches!(
             role_of(attribute(Some(Name::XMLNS), A)),
-            Role::Declares(Some(Name(6)))
+            Some(Declares(Some(Name(6))))
         )
     );
-    assert!(rt; matches!(role_of(attribute(None, Name::XMLNS)), Role::Declares(None)));
+    assert!(rt; matches!(role_of(attribute(None, Name::XMLNS)), Some(Declares(None))));
     // `xmlns:` declares the present empty prefix
     assert!(rt;
         matches!(
             role_of(attribute(Some(Name::XMLNS), Name::EMPTY)),
-            Role::Declares(Some(Name(0)))
+            Some(Declares(Some(Name(0))))
         )
     );
     // a present empty prefix with the local name `xmlns` declares nothing, nor does `a:xmlns`
-    assert!(rt;
-        matches!(
-            role_of(attribute(Some(Name::EMPTY), Name::XMLNS)),
-            Role::Ordinary
-        )
-    );
-    assert!(rt; matches!(role_of(attribute(Some(A), Name::XMLNS)), Role::Ordinary));
-    assert!(rt; matches!(role_of(attribute(None, A)), Role::Ordinary));
+    assert!(rt; role_of(attribute(Some(Name::EMPTY), Name::XMLNS)).is_none());
+    assert!(rt; role_of(attribute(Some(A), Name::XMLNS)).is_none());
+    assert!(rt; role_of(attribute(None, A)).is_none());
 }
 
 #[test]
 fn the_first_line_that_fits_decides(rt: HostRuntime) {
     let none: [Binding; 0] = [];
     // the xmlns namespace comes before all else
-    assert_eq!(rt; weighed(&none, None, XMLNS_URI), 1);
-    assert_eq!(rt; weighed(&none, Some(Name::XML), XMLNS_URI), 1);
-    assert_eq!(rt; weighed(&none, Some(Name::XMLNS), XMLNS_URI), 1);
-    assert_eq!(rt; weighed(&none, Some(Name::XML), XML_URI), 102);
-    assert_eq!(rt; weighed(&none, Some(Name::XML), b"urn:u"), 2);
-    assert_eq!(rt; weighed(&none, Some(Name::XML), b""), 2);
-    assert_eq!(rt; weighed(&none, Some(Name::XMLNS), XML_URI), 3);
-    assert_eq!(rt; weighed(&none, Some(Name::XMLNS), b""), 3);
-    assert_eq!(rt; weighed(&none, None, XML_URI), 2);
-    assert_eq!(rt; weighed(&none, Some(A), XML_URI), 2);
+    assert_eq!(rt; weighed(&none, None, XMLNS_URI), Err(1));
+    assert_eq!(rt; weighed(&none, Some(Name::XML), XMLNS_URI), Err(1));
+    assert_eq!(rt; weighed(&none, Some(Name::XMLNS), XMLNS_URI), Err(1));
+    assert_eq!(rt;
+        weighed(&none, Some(Name::XML), XML_URI),
+        Ok(Effect::Nothing)
+    );
+    assert_eq!(rt; weighed(&none, Some(Name::XML), b"urn:u"), Err(2));
+    assert_eq!(rt; weighed(&none, Some(Name::XML), b""), Err(2));
+    assert_eq!(rt; weighed(&none, Some(Name::XMLNS), XML_URI), Err(3));
+    assert_eq!(rt; weighed(&none, Some(Name::XMLNS), b""), Err(3));
+    assert_eq!(rt; weighed(&none, None, XML_URI), Err(2));
+    assert_eq!(rt; weighed(&none, Some(A), XML_URI), Err(2));
 }
 
 #[test]
@@ -75,22 +64,26 @@ fn a_prefix_is_declared_once_on_a_tag(rt: HostRuntime) {
         prefix: Some(A),
         ns: None,
     }];
-    assert_eq!(rt; weighed(&tag, Some(A), b"urn:u"), 4);
-    assert_eq!(rt; weighed(&tag, Some(A), b""), 4);
+    assert_eq!(rt; weighed(&tag, Some(A), b"urn:u"), Err(4));
+    assert_eq!(rt; weighed(&tag, Some(A), b""), Err(4));
     // its value is looked at first
-    assert_eq!(rt; weighed(&tag, Some(A), XML_URI), 2);
-    assert_eq!(rt; weighed(&tag, None, b"urn:u"), 100);
-    assert_eq!(rt; weighed(&tag, Some(Name::EMPTY), b""), 101);
+    assert_eq!(rt; weighed(&tag, Some(A), XML_URI), Err(2));
+    assert_eq!(rt; weighed(&tag, None, b"urn:u"), Ok(Effect::Binds));
+    assert_eq!(rt;
+        weighed(&tag, Some(Name::EMPTY), b""),
+        Ok(Effect::Undeclares)
+    );
 }
 
 #[test]
 fn only_a_rejected_declaration_is_an_error(rt: HostRuntime) {
-    assert!(rt; Verdict::Binds.error().is_none());
-    assert!(rt; Verdict::Undeclares.error().is_none());
-    assert!(rt; Verdict::NoEffect.error().is_none());
-    assert!(rt;
-        Verdict::Rejected(ErrorCode::DeclaredTwice)
-            .error()
-            .is_some()
-    );
+    let declared: [Binding; 0] = [];
+    let tag = [Binding {
+        prefix: Some(A),
+        ns: None,
+    }];
+    assert!(rt; weigh(&declared, None, b"urn:u").err().is_none());
+    assert!(rt; weigh(&declared, None, b"").err().is_none());
+    assert!(rt; weigh(&declared, Some(Name::XML), XML_URI).err().is_none());
+    assert!(rt; weigh(&tag, Some(A), b"urn:u").err() == Some(ErrorCode::DeclaredTwice));
 }

@@ -4,8 +4,6 @@
 #[cfg(test)]
 mod declaration_tests;
 #[cfg(test)]
-mod failing;
-#[cfg(test)]
 mod name_tests;
 #[cfg(test)]
 mod scope_tests;

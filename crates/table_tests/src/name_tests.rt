@@ -1,9 +1,9 @@
 // Names, their limits, and what is made of them.
 ghost use Rattle.std.specs.Prelude.{◌≡◌, Decides};
 
-use crate::failing::fail;
 use names::{
-    ErrorCode, ExpandedName, Layer, Name, NameFault, NameTable, QualName, Span, XML_URI, XMLNS_URI,
+    ErrorCode, ExpandedName, Layer, Name, NameFault, NameTable, QualName, Refusal, RefusalCode,
+    Span, XML_URI, XMLNS_URI,
 };
 use std::process::Abort;
 use std::test::Fail;
@@ -17,23 +17,15 @@ fn fill(rt: &impl Abort, table: &mut NameTable, count: u16) {
 
 // The refusal is number 4 of the names, at `held` names.
 fn check_refused(rt: &impl Abort, answer: Result<Name, NameFault>, held: u64) -> Result<(), Fail> {
-    match answer {
-        Ok(_) => fail("the text was entered"),
-        Err(fault) => {
-            let refusal = fault.refusal();
-            assert_eq!(rt; refusal.number, 4);
-            assert!(rt; matches!(refusal.layer, Layer::Names));
-            assert_eq!(rt; refusal.place, held);
-            Ok(())
-        }
-    }
+    let refusal = Refusal::from(answer.err().ok_or("the text was entered")?);
+    assert_eq!(rt; refusal.code.number(), 4);
+    assert!(rt; matches!(refusal.layer, Layer::Names));
+    assert_eq!(rt; refusal.place, held);
+    Ok(())
 }
 
 fn number(name: Option<Name>) -> u16 {
-    match name {
-        Some(Name(n)) => n,
-        None => 1000,
-    }
+    name.map_or(1000, |name| name.0)
 }
 
 #[test]
@@ -75,13 +67,9 @@ fn equal_texts_have_one_number(rt: HostRuntime) -> Result<(), Fail> {
     assert_eq!(rt; number(table.enter(b"job").ok()), 6);
     assert_eq!(rt; number(table.find(b"Job")), 7);
     assert!(rt; table.find(b"jo").is_none());
-    match table.text(Name(7)) {
-        Some(text) => {
-            assert!(rt; text == b"Job".as_slice());
-            Ok(())
-        },
-        None => fail("no text"),
-    }
+    let text = table.text(Name(7)).ok_or("no text")?;
+    assert!(rt; text == b"Job".as_slice());
+    Ok(())
 }
 
 #[test]
@@ -124,7 +112,7 @@ fn name(prefix: Option<Name>, ns: u16) -> QualName {
     }
 }
 
-// What a caller learns from `==`.
+// What a caller learns from `==`, at two types: a generic `==` is known to be an equivalence, and no more.
 fn same_qualified(a: QualName, b: QualName) -> bool
     ensures { Decides result (a ≡ b) }
 {
@@ -167,6 +155,15 @@ fn a_span_lies_in_a_text_up_to_its_end(rt: HostRuntime) {
         }
         .lies_in(text)
     );
+}
+
+#[test]
+fn refusals_have_numbers(rt: HostRuntime) {
+    assert_eq!(rt; RefusalCode::WrongWord.number(), 1);
+    assert_eq!(rt; RefusalCode::NamesFull.number(), 4);
+    assert_eq!(rt; RefusalCode::TooManyOpen.number(), 8);
+    assert_eq!(rt; RefusalCode::TooManyBindings.number(), 9);
+    assert_eq!(rt; RefusalCode::OutputFull.number(), 14);
 }
 
 #[test]

@@ -1,7 +1,7 @@
 // The builder's and the serializer's tables: their limits, and look-ups through nested elements.
-use crate::failing::fail;
-use names::Name;
-use scopes::{Binding, Lookup, ScopeFault, ScopeTable, SerializerScopes};
+use names::{Name, RefusalCode};
+use scopes::{Binding, Lookup, ScopeFault, ScopeTable, Scopes, SerializerScopes};
+use std::ops::Range;
 use std::test::Fail;
 
 const A: Name = Name(6);
@@ -18,17 +18,35 @@ fn bind(prefix: Option<Name>, ns: Option<Name>) -> Binding {
 
 // The table with one element more, which has this binding.
 fn inside(table: ScopeTable, binding: Binding) -> Result<ScopeTable, Fail> {
-    match table.open_row() {
-        Ok(opened) => added(opened, binding),
-        Err(_) => fail("no row left"),
-    }
+    Ok(table.open_row()?.add(binding)?)
 }
 
-fn added(table: ScopeTable, binding: Binding) -> Result<ScopeTable, Fail> {
-    match table.add(binding) {
-        Ok(table) => Ok(table),
-        Err(_) => fail("not added"),
+// The table with so many elements more, which have no binding.
+fn opened<const BUILT_IN: usize>(
+    table: Scopes<BUILT_IN>,
+    count: usize,
+) -> Result<Scopes<BUILT_IN>, Fail> {
+    let mut table = table;
+    for _ in 0..count {
+        table = table.open_row()?;
     }
+    Ok(table)
+}
+
+// The table with these names bound in its innermost row, all to one namespace.
+fn bound<const BUILT_IN: usize>(
+    table: Scopes<BUILT_IN>,
+    names: Range<u16>,
+) -> Result<Scopes<BUILT_IN>, Fail> {
+    let mut table = table;
+    for name in names {
+        table = table.add(bind(Some(Name(name)), Some(U)))?;
+    }
+    Ok(table)
+}
+
+fn refusal_number(fault: ScopeFault) -> Option<u8> {
+    fault.code().map(RefusalCode::number)
 }
 
 // The row and the place that answer, and the number of the namespace; 900 and more where none answers.
@@ -60,10 +78,7 @@ fn three_bindings_are_built_in(rt: HostRuntime) {
 
 #[test]
 fn the_nearest_declaration_answers(rt: HostRuntime) -> Result<(), Fail> {
-    let outer = added(
-        inside(ScopeTable::new(), bind(None, Some(U)))?,
-        bind(Some(A), Some(U)),
-    )?;
+    let outer = inside(ScopeTable::new(), bind(None, Some(U)))?.add(bind(Some(A), Some(U)))?;
     let inner = inside(outer, bind(Some(A), Some(V)))?;
     assert_eq!(rt; answer(inner.find_uri(&[], Some(A))), (1, 0, 21));
     assert_eq!(rt; answer(inner.find_uri(&[], None)), (0, 0, 20));
@@ -72,22 +87,15 @@ fn the_nearest_declaration_answers(rt: HostRuntime) -> Result<(), Fail> {
     let tag = [bind(Some(B), Some(U)), bind(Some(A), None)];
     assert_eq!(rt; answer(inner.find_uri(&tag, Some(A))), (2, 1, 999));
     assert_eq!(rt; answer(inner.find_uri(&tag, Some(B))), (2, 0, 20));
-    match inner.close_row() {
-        Ok(table) => {
-            assert_eq!(rt; answer(table.find_uri(&[], Some(A))), (0, 1, 20));
-            Ok(())
-        },
-        Err(_) => fail("not closed"),
-    }
+    let closed = inner.close_row()?;
+    assert_eq!(rt; answer(closed.find_uri(&[], Some(A))), (0, 1, 20));
+    Ok(())
 }
 
 #[test]
 fn undeclared_is_not_looked_up_further_out(rt: HostRuntime) -> Result<(), Fail> {
-    let outer = added(
-        inside(ScopeTable::new(), bind(None, Some(U)))?,
-        bind(Some(A), Some(U)),
-    )?;
-    let inner = added(inside(outer, bind(None, None))?, bind(Some(A), None))?;
+    let outer = inside(ScopeTable::new(), bind(None, Some(U)))?.add(bind(Some(A), Some(U)))?;
+    let inner = inside(outer, bind(None, None))?.add(bind(Some(A), None))?;
     let prefixed = inner.find_uri(&[], Some(A));
     assert_eq!(rt; prefixed.namespace().0, 0);
     assert!(rt; prefixed.error(Some(A)).is_some());
@@ -140,30 +148,21 @@ fn without_a_row_nothing_is_added_or_closed(rt: HostRuntime) {
         )
     );
     assert!(rt; matches!(table.close_row(), Err(ScopeFault::NoOpenRow)));
-    assert!(rt; ScopeFault::NoOpenRow.number().is_none());
+    assert!(rt; refusal_number(ScopeFault::NoOpenRow).is_none());
 }
 
 #[test]
 fn the_128th_row_passes_and_the_next_is_refused(rt: HostRuntime) -> Result<(), Fail> {
-    let mut table = ScopeTable::new();
-    for _ in 0..128 {
-        match table.open_row() {
-            Ok(opened) => table = opened,
-            Err(_) => return fail("refused too early"),
-        }
-    }
+    let table = opened(ScopeTable::new(), 128)?;
     assert_eq!(rt; table.row_count(), 128);
     assert!(rt; matches!(table.open_row(), Err(ScopeFault::TooManyRows)));
-    assert_eq!(rt; ScopeFault::TooManyRows.number(), Some(8));
+    assert_eq!(rt; refusal_number(ScopeFault::TooManyRows), Some(8));
     Ok(())
 }
 
 #[test]
 fn the_256th_binding_passes_and_the_next_is_refused(rt: HostRuntime) -> Result<(), Fail> {
-    let mut table = inside(ScopeTable::new(), bind(None, None))?;
-    for i in 6..258 {
-        table = added(table, bind(Some(Name(i)), Some(U)))?;
-    }
+    let table = bound(inside(ScopeTable::new(), bind(None, None))?, 6..258)?;
     assert_eq!(rt; table.binding_count(), 256);
     assert_eq!(rt; answer(table.find_uri(&[], Some(Name(257)))), (0, 252, 20));
     assert!(rt;
@@ -172,7 +171,7 @@ fn the_256th_binding_passes_and_the_next_is_refused(rt: HostRuntime) -> Result<(
             Err(ScopeFault::TooManyBindings)
         )
     );
-    assert_eq!(rt; ScopeFault::TooManyBindings.number(), Some(9));
+    assert_eq!(rt; refusal_number(ScopeFault::TooManyBindings), Some(9));
     Ok(())
 }
 
@@ -187,17 +186,7 @@ fn the_serializer_begins_with_nothing(rt: HostRuntime) {
 
 #[test]
 fn the_serializer_takes_256_bindings_and_any_prefix(rt: HostRuntime) -> Result<(), Fail> {
-    let mut table = SerializerScopes::new();
-    match table.open_row() {
-        Ok(opened) => table = opened,
-        Err(_) => return fail("no row left"),
-    }
-    for i in 0..256 {
-        match table.add(bind(Some(Name(i)), Some(U))) {
-            Ok(more) => table = more,
-            Err(_) => return fail("refused too early"),
-        }
-    }
+    let table = bound(SerializerScopes::new().open_row()?, 0..256)?;
     assert_eq!(rt; table.binding_count(), 256);
     assert!(rt;
         matches!(
@@ -205,30 +194,15 @@ fn the_serializer_takes_256_bindings_and_any_prefix(rt: HostRuntime) -> Result<(
             Err(ScopeFault::TooManyBindings)
         )
     );
-    match table.find(Some(Name::XML)) {
-        Some(found) => {
-            assert_eq!(rt; found.place, 1);
-            Ok(())
-        },
-        None => fail("not found"),
-    }
+    let found = table.find(Some(Name::XML)).ok_or("not found")?;
+    assert_eq!(rt; found.place, 1);
+    Ok(())
 }
 
 #[test]
 fn the_serializer_takes_128_rows(rt: HostRuntime) -> Result<(), Fail> {
-    let mut table = SerializerScopes::new();
-    for _ in 0..128 {
-        match table.open_row() {
-            Ok(opened) => table = opened,
-            Err(_) => return fail("refused too early"),
-        }
-    }
+    let table = opened(SerializerScopes::new(), 128)?;
     assert!(rt; matches!(table.open_row(), Err(ScopeFault::TooManyRows)));
-    match table.close_row() {
-        Ok(closed) => {
-            assert_eq!(rt; closed.row_count(), 127);
-            Ok(())
-        },
-        Err(_) => fail("not closed"),
-    }
+    assert_eq!(rt; table.close_row()?.row_count(), 127);
+    Ok(())
 }

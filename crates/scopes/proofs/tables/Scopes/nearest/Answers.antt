@@ -29,9 +29,9 @@ returns-in-Some-find_in g c =
     let t = c.args.self.now in
     let p = c.args.prefix in
     let i = c.loop-row.invariant in
-    let r = innermost _ _ c.args.self.now.entries.items _ _ _ _ c.args.prefix i.few c.in-Some.ensures.steps.1.0 i.front i.climbing in
     let k = length c.next.new.self.iter.iter.rest.now in
     let number : c.in-Some.row ≡ k = omega (arith, c.in-Some.ensures.steps.1.1, i.counted) in
+    let r = innermost _ _ c.args.self.now.entries.items _ _ _ _ c.args.prefix i.few c.in-Some.ensures.steps.1.0 i.front i.climbing in
     let around = nearest (stacked t.starts.items t.entries.items k c.in-Some.start.now) p in
     let value = ap (λ o. option_or o around) (c.in-Some-find_in.ensures ∙ ap (λ n. in_row n 0 (between c.in-Some.start.now c.loop-row.end t.entries.items) p) number) ∙ sym r.gives ∙ i.same in
     record { value = value; scoped = answered (rows_of t) p (Some c.in-Some-find_in.found) value }
@@ -41,9 +41,9 @@ loop-row-preserved g c =
     let t = c.args.self.now in
     let p = c.args.prefix in
     let i = c.loop-row.invariant in
-    let r = innermost _ _ c.args.self.now.entries.items _ _ _ _ c.args.prefix i.few c.in-Some.ensures.steps.1.0 i.front i.climbing in
     let k = length c.next.new.self.iter.iter.rest.now in
     let number : c.in-Some.row ≡ k = omega (arith, c.in-Some.ensures.steps.1.1, i.counted) in
+    let r = innermost _ _ c.args.self.now.entries.items _ _ _ _ c.args.prefix i.few c.in-Some.ensures.steps.1.0 i.front i.climbing in
     let around = nearest (stacked t.starts.items t.entries.items k c.in-Some.start.now) p in
     record {
       counted = c.in-Some.ensures.steps.0 ∙ i.counted;
