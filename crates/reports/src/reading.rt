@@ -6,7 +6,6 @@ use crate::stop::Stop;
 use crate::tag::{Declared, Tag, Weighed};
 use crate::tally::Tally;
 use crate::texts::{NameText, Named};
-use crate::words::kind_word;
 use crate::write::Closed;
 use listing::{ListedKind, ListedTag, ListedToken, lines_of, read_token};
 use names::{NameTable, QualName};
@@ -130,7 +129,7 @@ impl Reading {
 
     fn take_tag(&mut self, listed: ListedTag) -> Result<(), Stop> {
         let line = self.line;
-        let kind = kind_word(listed.kind);
+        let kind = listed.kind;
         let name = NameText::from(&listed.name);
         writeln!(self.out, "line {line}: {kind} {name}")?;
         self.tally.count_tag();

@@ -1,16 +1,6 @@
-// The plain words for errors and kinds of tags. These are types of the libraries, which leave the words to the program.
-use listing::ListedKind;
+// The plain words for errors. Their numbers come from the library, which leaves the words to the program.
 use names::ErrorCode;
 
-pub(crate) fn kind_word(kind: ListedKind) -> &'static str {
-    match kind {
-        ListedKind::Start => "start",
-        ListedKind::End => "end",
-        ListedKind::Empty => "empty",
-    }
-}
-
-// The numbers of the errors come from the library.
 pub(crate) fn error_words(code: ErrorCode) -> &'static str {
     match code {
         ErrorCode::TokenizerError => "the tokenizer reported an error",
