@@ -7,3 +7,4 @@ pub mod Texts
 pub mod Cuts
 pub mod Held
 pub mod Table
+pub mod Entering

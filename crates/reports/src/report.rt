@@ -3,7 +3,8 @@ use crate::reading::Reading;
 use crate::stop::Stop;
 use std::alloc::{AllocError, Global};
 
-// `complete` is false where a line was malformed or a tag was refused, so that the rest was not read.
+// `complete` is false where a line was malformed or a tag was refused, so that the rest was not read. There is a text
+// either way, so a Result would not say it more plainly.
 #[derive(Drop)]
 pub struct Report {
     pub text: String,

@@ -1,7 +1,7 @@
 // A tag whose names have their numbers, and its declarations weighed.
 use crate::stop::Stop;
 use listing::{ListedAttribute, ListedKind, ListedName, ListedTag};
-use names::{ErrorCode, Name, NameTable, QualName};
+use names::{ErrorCode, Name, NameFault, NameTable, QualName};
 use scopes::{Binding, Declares, Effect, role_of, weigh};
 use std::alloc::Global;
 
@@ -21,15 +21,8 @@ pub(crate) struct Tag {
     pub(crate) attrs: Vec<QualName>,
 }
 
-fn enter_name(names: &mut NameTable, name: &ListedName) -> Result<QualName, Stop> {
-    let prefix = name.prefix.as_deref();
-    let prefix = prefix.map(|text| names.enter(text)).transpose()?;
-    let local = names.enter(name.local.as_slice())?;
-    Ok(QualName {
-        prefix,
-        ns: Name::EMPTY,
-        local,
-    })
+fn enter_name(names: &mut NameTable, name: &ListedName) -> Result<QualName, NameFault> {
+    names.enter_name(name.prefix.as_deref(), name.local.as_slice())
 }
 
 impl Tag {

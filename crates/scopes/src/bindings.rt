@@ -13,7 +13,7 @@ pub struct Binding {
 
 // The binding that answered: `row` counts the open elements around the one that has it, and `place` the bindings
 // before it there.
-#[derive(Clone, Copy)]
+#[derive(Clone, Copy, Debug, PartialEq, Eq)]
 pub struct Found {
     pub row: usize,
     pub place: usize,
@@ -21,7 +21,7 @@ pub struct Found {
 }
 
 // Where the namespace of a prefix comes from.
-#[derive(Clone, Copy)]
+#[derive(Clone, Copy, Debug, PartialEq, Eq)]
 pub enum Lookup {
     Declared(Found),
     BuiltIn(Name),

@@ -24,10 +24,6 @@ fn check_refused(rt: &impl Abort, answer: Result<Name, NameFault>, held: u64) ->
     Ok(())
 }
 
-fn number(name: Option<Name>) -> u16 {
-    name.map_or(1000, |name| name.0)
-}
-
 #[test]
 fn a_table_begins_with_six_names(rt: HostRuntime) -> Result<(), Fail> {
     let table = NameTable::new(rt.alloc())?;
@@ -40,8 +36,8 @@ fn a_table_begins_with_six_names(rt: HostRuntime) -> Result<(), Fail> {
         b"http://www.w3.org/XML/1998/namespace",
         b"http://www.w3.org/2000/xmlns/",
     ];
-    for (i, text) in texts.iter().enumerate() {
-        assert_eq!(rt; number(table.find(text)) as usize, i);
+    for (text, number) in texts.iter().zip(0u16..) {
+        assert_eq!(rt; table.find(text), Some(Name(number)));
     }
     assert!(rt; table.text(Name(6)).is_none());
     Ok(())
@@ -62,10 +58,10 @@ fn the_constants_name_the_built_in_texts(rt: HostRuntime) -> Result<(), Fail> {
 #[test]
 fn equal_texts_have_one_number(rt: HostRuntime) -> Result<(), Fail> {
     let mut table = NameTable::new(rt.alloc())?;
-    assert_eq!(rt; number(table.enter(b"job").ok()), 6);
-    assert_eq!(rt; number(table.enter(b"Job").ok()), 7);
-    assert_eq!(rt; number(table.enter(b"job").ok()), 6);
-    assert_eq!(rt; number(table.find(b"Job")), 7);
+    assert_eq!(rt; table.enter(b"job").ok(), Some(Name(6)));
+    assert_eq!(rt; table.enter(b"Job").ok(), Some(Name(7)));
+    assert_eq!(rt; table.enter(b"job").ok(), Some(Name(6)));
+    assert_eq!(rt; table.find(b"Job"), Some(Name(7)));
     assert!(rt; table.find(b"jo").is_none());
     let text = table.text(Name(7)).ok_or("no text")?;
     assert!(rt; text == b"Job".as_slice());
@@ -75,8 +71,40 @@ fn equal_texts_have_one_number(rt: HostRuntime) -> Result<(), Fail> {
 #[test]
 fn names_are_bytes(rt: HostRuntime) -> Result<(), Fail> {
     let mut table = NameTable::new(rt.alloc())?;
-    assert_eq!(rt; number(table.enter(&[0xff, 0, 0x80]).ok()), 6);
-    assert_eq!(rt; number(table.find(&[0xff, 0, 0x80])), 6);
+    assert_eq!(rt; table.enter(&[0xff, 0, 0x80]).ok(), Some(Name(6)));
+    assert_eq!(rt; table.find(&[0xff, 0, 0x80]), Some(Name(6)));
+    Ok(())
+}
+
+#[test]
+fn a_prefix_is_entered_before_its_local_name(rt: HostRuntime) -> Result<(), Fail> {
+    let mut table = NameTable::new(rt.alloc())?;
+    let job = table.enter_name(Some(b"build"), b"job").ok();
+    assert!(rt;
+        job == Some(QualName {
+            prefix: Some(Name(6)),
+            ns: Name::EMPTY,
+            local: Name(7)
+        })
+    );
+    let file = table.enter_name(None, b"file").ok();
+    assert!(rt;
+        file == Some(QualName {
+            prefix: None,
+            ns: Name::EMPTY,
+            local: Name(8)
+        })
+    );
+    Ok(())
+}
+
+#[test]
+fn a_prefix_stays_where_its_local_name_is_refused(rt: HostRuntime) -> Result<(), Fail> {
+    let mut table = NameTable::new(rt.alloc())?;
+    fill(&rt, &mut table, 505);
+    assert!(rt; table.enter_name(Some(b"build"), b"job").is_err());
+    assert_eq!(rt; table.find(b"build"), Some(Name(511)));
+    assert!(rt; table.find(b"job").is_none());
     Ok(())
 }
 
@@ -88,8 +116,8 @@ fn the_512th_name_passes_and_the_next_is_refused(rt: HostRuntime) -> Result<(), 
     check_refused(&rt, table.enter(b"one more"), 512)?;
     assert_eq!(rt; table.len(), 512);
     // a known text is never refused
-    assert_eq!(rt; number(table.enter(b"script").ok()), 3);
-    assert_eq!(rt; number(table.enter(&505u16.to_be_bytes()).ok()), 511);
+    assert_eq!(rt; table.enter(b"script").ok(), Some(Name(3)));
+    assert_eq!(rt; table.enter(&505u16.to_be_bytes()).ok(), Some(Name(511)));
     Ok(())
 }
 
@@ -97,10 +125,10 @@ fn the_512th_name_passes_and_the_next_is_refused(rt: HostRuntime) -> Result<(), 
 fn the_16384th_byte_passes_and_the_next_is_refused(rt: HostRuntime) -> Result<(), Fail> {
     let mut table = NameTable::new(rt.alloc())?;
     check_refused(&rt, table.enter(&[7; 16306]), 6)?;
-    assert_eq!(rt; number(table.enter(&[7; 16305]).ok()), 6);
+    assert_eq!(rt; table.enter(&[7; 16305]).ok(), Some(Name(6)));
     check_refused(&rt, table.enter(b"x"), 7)?;
-    assert_eq!(rt; number(table.enter(&[7; 16305]).ok()), 6);
-    assert_eq!(rt; number(table.enter(b"").ok()), 0);
+    assert_eq!(rt; table.enter(&[7; 16305]).ok(), Some(Name(6)));
+    assert_eq!(rt; table.enter(b"").ok(), Some(Name(0)));
     Ok(())
 }
 

@@ -1,6 +1,6 @@
 // The builder's and the serializer's tables: their limits, and look-ups through nested elements.
 use names::{Name, RefusalCode};
-use scopes::{Binding, Lookup, ScopeFault, ScopeTable, Scopes, SerializerScopes};
+use scopes::{Binding, Found, Lookup, ScopeFault, ScopeTable, Scopes, SerializerScopes};
 use std::ops::Range;
 use std::test::Fail;
 
@@ -49,13 +49,8 @@ fn refusal_number(fault: ScopeFault) -> Option<u8> {
     fault.code().map(RefusalCode::number)
 }
 
-// The row and the place that answer, and the number of the namespace; 900 and more where none answers.
-fn answer(found: Lookup) -> (usize, usize, u16) {
-    match found {
-        Lookup::Declared(f) => (f.row, f.place, f.ns.unwrap_or(Name(999)).0),
-        Lookup::BuiltIn(Name(n)) => (900, 900, n),
-        Lookup::Unbound => (901, 901, 0),
-    }
+fn declared(row: usize, place: usize, ns: Option<Name>) -> Lookup {
+    Lookup::Declared(Found { row, place, ns })
 }
 
 #[test]
@@ -63,32 +58,32 @@ fn three_bindings_are_built_in(rt: HostRuntime) {
     let table = ScopeTable::new();
     assert_eq!(rt; table.row_count(), 0);
     assert_eq!(rt; table.binding_count(), 3);
-    assert_eq!(rt; answer(table.find_uri(&[], None)), (900, 900, 0));
-    assert_eq!(rt; answer(table.find_uri(&[], Some(Name::XML))), (900, 900, 4));
+    assert_eq!(rt; table.find_uri(&[], None), Lookup::BuiltIn(Name(0)));
     assert_eq!(rt;
-        answer(table.find_uri(&[], Some(Name::XMLNS))),
-        (900, 900, 5)
+        table.find_uri(&[], Some(Name::XML)),
+        Lookup::BuiltIn(Name(4))
     );
-    assert_eq!(rt; answer(table.find_uri(&[], Some(A))), (901, 901, 0));
     assert_eq!(rt;
-        answer(table.find_uri(&[], Some(Name::EMPTY))),
-        (901, 901, 0)
+        table.find_uri(&[], Some(Name::XMLNS)),
+        Lookup::BuiltIn(Name(5))
     );
+    assert_eq!(rt; table.find_uri(&[], Some(A)), Lookup::Unbound);
+    assert_eq!(rt; table.find_uri(&[], Some(Name::EMPTY)), Lookup::Unbound);
 }
 
 #[test]
 fn the_nearest_declaration_answers(rt: HostRuntime) -> Result<(), Fail> {
     let outer = inside(ScopeTable::new(), bind(None, Some(U)))?.add(bind(Some(A), Some(U)))?;
     let inner = inside(outer, bind(Some(A), Some(V)))?;
-    assert_eq!(rt; answer(inner.find_uri(&[], Some(A))), (1, 0, 21));
-    assert_eq!(rt; answer(inner.find_uri(&[], None)), (0, 0, 20));
-    assert_eq!(rt; answer(outer.find_uri(&[], Some(A))), (0, 1, 20));
+    assert_eq!(rt; inner.find_uri(&[], Some(A)), declared(1, 0, Some(V)));
+    assert_eq!(rt; inner.find_uri(&[], None), declared(0, 0, Some(U)));
+    assert_eq!(rt; outer.find_uri(&[], Some(A)), declared(0, 1, Some(U)));
     // the tag's own declarations come first, in the row after the open elements
     let tag = [bind(Some(B), Some(U)), bind(Some(A), None)];
-    assert_eq!(rt; answer(inner.find_uri(&tag, Some(A))), (2, 1, 999));
-    assert_eq!(rt; answer(inner.find_uri(&tag, Some(B))), (2, 0, 20));
+    assert_eq!(rt; inner.find_uri(&tag, Some(A)), declared(2, 1, None));
+    assert_eq!(rt; inner.find_uri(&tag, Some(B)), declared(2, 0, Some(U)));
     let closed = inner.close_row()?;
-    assert_eq!(rt; answer(closed.find_uri(&[], Some(A))), (0, 1, 20));
+    assert_eq!(rt; closed.find_uri(&[], Some(A)), declared(0, 1, Some(U)));
     Ok(())
 }
 
@@ -128,12 +123,12 @@ fn no_call_binds_the_reserved_prefixes(rt: HostRuntime) -> Result<(), Fail> {
         bind(Some(Name::XMLNS), None),
     ];
     assert_eq!(rt;
-        answer(table.find_uri(&tag, Some(Name::XML))),
-        (900, 900, 4)
+        table.find_uri(&tag, Some(Name::XML)),
+        Lookup::BuiltIn(Name(4))
     );
     assert_eq!(rt;
-        answer(table.find_uri(&tag, Some(Name::XMLNS))),
-        (900, 900, 5)
+        table.find_uri(&tag, Some(Name::XMLNS)),
+        Lookup::BuiltIn(Name(5))
     );
     Ok(())
 }
@@ -164,7 +159,10 @@ fn the_128th_row_passes_and_the_next_is_refused(rt: HostRuntime) -> Result<(), F
 fn the_256th_binding_passes_and_the_next_is_refused(rt: HostRuntime) -> Result<(), Fail> {
     let table = bound(inside(ScopeTable::new(), bind(None, None))?, 6..258)?;
     assert_eq!(rt; table.binding_count(), 256);
-    assert_eq!(rt; answer(table.find_uri(&[], Some(Name(257)))), (0, 252, 20));
+    assert_eq!(rt;
+        table.find_uri(&[], Some(Name(257))),
+        declared(0, 252, Some(U))
+    );
     assert!(rt;
         matches!(
             table.add(bind(Some(A), Some(U))),

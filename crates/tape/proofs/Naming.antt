@@ -2,7 +2,8 @@
 use Rattle.std.proofs.Common.{◌≡◌, ℕ, ◌≤◌, List, [], ◌∷◌, ◌++◌, length, get_or, Ok, sym, ap, ◌∙◌, arith}
 use Rattle.names.specs.declared.spans.Attribute.{Attribute}
 use Rattle.tape.specs.Parts.{PartsLeft, passed}
-use Rattle.tape.specs.Entering.{Entered, and_then, attribute_entered, attributes_entered}
+use Rattle.names.specs.Entering.{Entered, and_then}
+use Rattle.tape.specs.Entering.{attribute_entered, attributes_entered}
 
 module _ (done : List Attribute) (ts us : List (List ℕ)) (bs : List ℕ) (at : ℕ) (a : Attribute) (q : PartsLeft) where
   -- the first three words make an attribute, and the others follow

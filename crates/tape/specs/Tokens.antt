@@ -15,7 +15,8 @@ use Rattle.tape.specs.declared.words.Head.{Head}
 use Rattle.tape.specs.declared.words.Head.TheVariants as head
 use Rattle.tape.specs.Words.{payload_of}
 use Rattle.tape.specs.Parts.{text_of, maybe_text}
-use Rattle.tape.specs.Entering.{Entered, and_then, name_entered, attributes_entered}
+use Rattle.names.specs.Entering.{Entered, and_then}
+use Rattle.tape.specs.Entering.{name_entered, attributes_entered}
 
 -- a token with the bytes of its texts
 pub data TokenValue : Type 0 where

@@ -3,12 +3,13 @@ ghost use Rattle.std.specs.Prelude.{◌≡◌, ◌+◌, ◌<◌, ◌≤◌, true
 ghost use Rattle.std.specs.Option.{option_map};
 ghost use Rattle.names.specs.BuiltIn.{built_in};
 ghost use Rattle.names.specs.Held as holding;
+ghost use Rattle.names.specs.Entering.{name_entered};
 ghost use Rattle.names.specs.Names.{numbered};
 ghost use Rattle.names.specs.Table.{texts};
 ghost use Rattle.names.specs.Texts.{begins, seek, text_at, fits, entered, after, NumberOf, KeepsNumbers};
 
 use super::NameTable;
-use crate::qualified::{Name, XML_URI, XMLNS_URI};
+use crate::qualified::{Name, QualName, XML_URI, XMLNS_URI};
 use crate::refusals::NameFault;
 use crate::store::{MOST_BYTES, MOST_NAMES, TextStore};
 use std::alloc::{AllocError, Global};
@@ -85,6 +86,24 @@ impl NameTable {
             Some(name) => Ok(name),
             None => self.append(text),
         }
+    }
+
+    // The numbers of a prefix, which may be absent, and of the local name behind it, entered in this order. The namespace
+    // is not known yet, and stands at the empty one.
+    pub fn enter_name(&mut self, prefix: Option<&[u8]>, local: &[u8]) -> Result<QualName, NameFault>
+        ensures { (texts self.new, result)
+            ≡ name_entered (texts self.old) (option_map (λ x. x.now) prefix.entry) local.now }
+    {
+        let prefix = match prefix {
+            Some(text) => Some(self.enter(text)?),
+            None => None,
+        };
+        let local = self.enter(local)?;
+        Ok(QualName {
+            prefix,
+            ns: Name::EMPTY,
+            local,
+        })
     }
 
     // Enters a text that the table does not hold.
