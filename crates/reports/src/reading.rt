@@ -231,9 +231,7 @@ impl Reading {
         let closed = Named::new(&self.names, Closed { element, inside });
         writeln!(self.out, "  {closed}")?;
         self.elements.truncate(place);
-        for _ in 0..=inside {
-            self.scopes = self.scopes.close_row()?;
-        }
+        self.scopes = (0..=inside).try_fold(self.scopes, |table, _| table.close_row())?;
         if self.elements.is_empty() {
             self.phase = Phase::End { line: self.line };
         }

@@ -31,6 +31,9 @@ pub(crate) fn is_crowded(head: Head, room: usize) -> bool
     matches!(head, Head::Tag(_, count) if count > MOST_ATTRIBUTES || count > room)
 }
 
+// The name table and the attribute table are lent side by side: one struct of both would have every contract say which
+// of its two loans it leaves alone.
+
 // A tag with its attributes. The names are all entered before the table is written to, so that one that is refused leaves
 // it as it was.
 fn make_tag<'t>(

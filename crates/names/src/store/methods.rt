@@ -49,6 +49,7 @@ impl TextStore {
     pub(crate) fn find(&self, text: &[u8]) -> Option<Name>
         ensures { result ≡ seek 0 (held self.now) text.now }
     {
+        // Each text begins where the one before it ends, which no closure of a search could keep.
         let mut start = 0;
         for (i, end) in self.ends.iter().enumerate() {
             let end = *end;
