@@ -2,7 +2,7 @@
 ghost use Rattle.std.specs.Prelude.{◌≡◌, ◌+◌, ◌<◌, ◌≤◌, false, [], ◌∷◌, ◌++◌, length, IfOk};
 ghost use Rattle.std.specs.Option.{option_map};
 ghost use Rattle.names.specs.Cuts.{start_of};
-ghost use Rattle.names.specs.Texts.{seek, contains, total, text_at};
+ghost use Rattle.names.specs.Texts.{seek, contains, total, text_at, NumberOf};
 ghost use Rattle.names.specs.Held.{held};
 
 use super::{MOST_BYTES, MOST_NAMES, TextStore};
@@ -45,8 +45,8 @@ impl TextStore {
         self.bytes.len()
     }
 
-    // The number of the text that equals `text`.
-    pub(crate) fn find(&self, text: &[u8]) -> Option<Name>
+    // The search for the text that equals `text`.
+    fn seek(&self, text: &[u8]) -> Option<Name>
         ensures { result ≡ seek 0 (held self.now) text.now }
     {
         // Each text begins where the one before it ends, which no closure of a search could keep.
@@ -59,6 +59,14 @@ impl TextStore {
             start = end;
         }
         None
+    }
+
+    // The number of the text that equals `text`.
+    pub(crate) fn find(&self, text: &[u8]) -> Option<Name>
+        ensures value { result ≡ seek 0 (held self.now) text.now }
+        ensures number { NumberOf (held self.now) text.now result }
+    {
+        self.seek(text)
     }
 
     // The text with the number `i`, if there is one.
