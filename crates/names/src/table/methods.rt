@@ -94,6 +94,7 @@ impl NameTable {
         ensures { (texts self.new, result)
             ≡ name_entered (texts self.old) (option_map (λ x. x.now) prefix.entry) local.now }
     {
+        // Not `map`: of a closure that enters, a proof would not know what it leaves.
         let prefix = match prefix {
             Some(text) => Some(self.enter(text)?),
             None => None,
