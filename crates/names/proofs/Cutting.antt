@@ -3,6 +3,7 @@ use Rattle.std.proofs.Common.{◌≡◌, ℕ, zero, suc, ◌+◌, ◌-◌, ◌<�
 use Rattle.std.specs.List.{between}
 use Rattle.std.proofs.lemmas.List.{take-append-le, drop-append-le, drop_at, take_all}
 use Rattle.std.proofs.lemmas.List.Edits.{length-between}
+use Rattle.std.proofs.lemmas.List.Sums.{sum_by-cons}
 use Rattle.std.proofs.lemmas.Bool.{and_parts, and_from, leb-true, le-leb, lt-ltb, eqb-true, eq-eqb, cond-true}
 use Rattle.names.specs.Cuts.{chained, cuts, start_of}
 use Rattle.names.specs.Texts.{total, text_at}
@@ -59,7 +60,7 @@ pub total-cuts : (f : ℕ) (es bs : List ℕ) (n : ℕ) → length bs ≡ n → 
 total-cuts f [] bs n h c = omega (arith, eqb-true f n c)
 total-cuts f (e ∷ es) bs n h c =
     let p = front f e es n c in
-    omega (arith, p.low, p.high, length-between bs f e (omega arith), total-cuts e es bs n h p.on)
+    omega (arith, p.low, p.high, sum_by-cons length (between f e bs) (cuts e es bs), length-between bs f e (omega arith), total-cuts e es bs n h p.on)
 
 -- the text at place i
 pub record Placed (f : ℕ) (es bs : List ℕ) (n i : ℕ) : Type 0 where

@@ -1,5 +1,6 @@
 -- A name table as a list of texts: the number of a text is its place. Assumes nothing.
-use Rattle.std.specs.Prelude.{◌≡◌, ℕ, ◌+◌, ◌<◌, Bool, true, false, cond, not, ◌&&◌, ◌||◌, List, [], ◌∷◌, ◌++◌, length, Some, None, Ok, Err, Option, Result, nat_le, nat_lt, slice_index_or}
+use Rattle.std.specs.Prelude.{◌≡◌, ℕ, ◌+◌, ◌<◌, Bool, true, false, cond, not, ◌&&◌, List, [], ◌∷◌, ◌++◌, length, Some, None, Ok, Err, Option, Result, nat_le, nat_lt, slice_index_or}
+use Rattle.std.specs.List.{sum_by, list_any}
 use Rattle.std.specs.Str.{bytes_eq}
 use Rattle.names.specs.declared.qualified.Name.{Name}
 use Rattle.names.specs.declared.refusals.NameFault.{NameFault}
@@ -17,8 +18,7 @@ seek i (u ∷ us) t = cond (bytes_eq u t) (Some (numbered i)) (seek (i + 1) us t
 
 -- the bytes of all texts
 abbrev pub total : List (List ℕ) → ℕ
-total [] = 0
-total (t ∷ ts) = length t + total ts
+total ts = sum_by length ts
 
 -- the number of one name more, of `len` bytes, beside `held` names of `bytes` bytes: the limits are 512 and 16,384
 abbrev pub fits : ℕ → ℕ → ℕ → Result Name NameFault
@@ -53,8 +53,7 @@ begins (u ∷ us) [] = false
 begins (u ∷ us) (t ∷ ts) = bytes_eq u t && begins us ts
 
 abbrev pub contains : List (List ℕ) → List ℕ → Bool
-contains [] t = false
-contains (u ∷ us) t = bytes_eq u t || contains us t
+contains ts t = list_any (λ u. bytes_eq u t) ts
 
 -- no text stands there twice
 abbrev pub distinct : List (List ℕ) → Bool

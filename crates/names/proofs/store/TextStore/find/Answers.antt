@@ -1,10 +1,8 @@
-use Rattle.std.proofs.Common.{sym, subst}
-use Rattle.names.specs.Held.{held}
-use Rattle.names.specs.Texts.{NumberOf}
-use Rattle.names.proofs.Seeking.{number_of}
+use Rattle.std.proofs.Common.{arith}
+use Rattle.names.proofs.Seeking.{front_at}
 use Rattle.names.proofs.store.TextStore.find.Goals as goal
 
-pub returns-clause-number : goal.returns-clause-number
-returns-clause-number c =
-    let s = c.args.self.now in
-    subst (NumberOf (held s) c.args.text.now) (sym c.seek.ensures) (number_of (held s) c.args.text.now s.apart)
+pub slice_bounds-eq-end : goal.slice_bounds-eq-end
+slice_bounds-eq-end c =
+    let h = (front_at _ _ _ _ _ c.deref-end-items.ensures.value c.loop-i-test.true c.loop-i.invariant.0).high in
+    omega (arith, c.deref.ensures.len)

@@ -2,7 +2,7 @@ use Rattle.std.proofs.Common.{◌≡◌, true, drop, vec_items, vec_len}
 use Rattle.names.specs.Cuts.{chained, cuts}
 use Rattle.names.specs.Held.{held}
 use Rattle.names.specs.Texts.{seek}
-use Rattle.names.proofs.store.TextStore.seek.Given as goal
+use Rattle.names.proofs.store.TextStore.find.Given as goal
 
 -- the texts from `start` on, with the ends not yet seen, give the same answer as all
 abbrev pub invariant-loop-i : goal.invariant-loop-i
