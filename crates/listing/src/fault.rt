@@ -41,7 +41,7 @@ impl fmt::Display for Expected {
 
 #[derive(Clone, Copy, Debug, PartialEq, Eq)]
 pub enum ListingFault {
-    Memory,
+    Memory(AllocError),
     Expected(Expected),
 }
 
@@ -54,17 +54,17 @@ impl From<Expected> for ListingFault {
 }
 
 impl From<AllocError> for ListingFault {
-    ghost from_gives = { λ _ r. r ≡ fault.Memory };
+    ghost from_gives = { λ e r. r ≡ fault.Memory e };
 
-    fn from(_e: AllocError) -> ListingFault {
-        ListingFault::Memory
+    fn from(e: AllocError) -> ListingFault {
+        ListingFault::Memory(e)
     }
 }
 
 impl<T: Drop> From<AllocFailed<T>> for ListingFault {
-    ghost from_gives = { λ _ r. r ≡ fault.Memory };
+    ghost from_gives = { λ _ r. r ≡ fault.Memory (record {}) };
 
-    fn from(_e: AllocFailed<T>) -> ListingFault {
-        ListingFault::Memory
+    fn from(failed: AllocFailed<T>) -> ListingFault {
+        ListingFault::Memory(AllocError::from(failed))
     }
 }

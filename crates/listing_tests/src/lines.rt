@@ -38,15 +38,13 @@ fn all_lines(rt: HostRuntime) -> Result<(), Fail> {
 }
 
 #[test]
-fn numbered_lines(rt: HostRuntime) -> Result<(), Fail> {
+fn numbered_lines(rt: HostRuntime) {
     let lines: [&[u8]; 4] = [b"start a", b"", b"end a", b"eof"];
     let text = b"start a\r\n\nend a\neof\n";
     for (i, line) in lines_of(text).enumerate() {
-        let wanted = lines.get(i).ok_or("a line too many")?;
-        assert_eq!(rt; line, *wanted);
+        assert!(rt; lines.get(i).copied() == Some(line));
     }
     assert_eq!(rt; lines_of(text).count(), 4);
-    Ok(())
 }
 
 #[test]

@@ -3,7 +3,7 @@ ghost use Rattle.std.specs.Prelude.{◌≡◌};
 ghost use Rattle.names.specs.Errors.{code_number};
 
 // What is wrong with a document, by the number under which it is noted. No error has the number 5.
-#[derive(Clone, Copy, PartialEq, Eq)]
+#[derive(Clone, Copy, PartialEq, Eq, PartialOrd, Ord)]
 pub enum ErrorCode {
     TokenizerError = 0,
     XmlnsUriDeclared = 1,

@@ -30,8 +30,7 @@ impl From<AllocError> for Stop {
 impl From<ListingFault> for Stop {
     fn from(fault: ListingFault) -> Stop {
         match fault {
-            // The listing's fault does not keep the error.
-            ListingFault::Memory => Stop::Memory(AllocError),
+            ListingFault::Memory(e) => Stop::Memory(e),
             ListingFault::Expected(expected) => Stop::Malformed(expected),
         }
     }

@@ -2,7 +2,7 @@
 use crate::stop::Stop;
 use listing::{ListedAttribute, ListedKind, ListedName, ListedTag};
 use names::{ErrorCode, Name, NameFault, NameTable, QualName};
-use scopes::{Binding, Declares, Effect, role_of, weigh};
+use scopes::{Binding, Declares, Effect, declared_by, weigh};
 use std::alloc::Global;
 
 #[derive(Drop)]
@@ -52,7 +52,7 @@ impl Tag {
     ) -> Result<(), Stop> {
         let ListedAttribute { name, value } = attr;
         let name = enter_name(names, &name)?;
-        match role_of(name) {
+        match declared_by(name) {
             Some(Declares(prefix)) => {
                 self.declarations.push(Declaration {
                     name,

@@ -6,6 +6,7 @@ use crate::write::Reason;
 use listing::ListedKind;
 use names::{ErrorCode, QualName};
 use std::alloc::{AllocError, Global};
+use std::collections::BTreeMap;
 use std::fmt;
 
 // A name that landed in no namespace.
@@ -23,7 +24,7 @@ pub(crate) struct Tally {
     bound: usize,
     elements: usize,
     strays: Vec<Stray>,
-    errors: Vec<ErrorCode>,
+    errors: BTreeMap<ErrorCode, usize>,
 }
 
 impl Tally {
@@ -33,7 +34,7 @@ impl Tally {
             bound: 0,
             elements: 0,
             strays: Vec::new(heap),
-            errors: Vec::new(heap),
+            errors: BTreeMap::new(heap),
         }
     }
 
@@ -49,7 +50,11 @@ impl Tally {
     }
 
     pub(crate) fn note_error(&mut self, error: Option<ErrorCode>) -> Result<(), AllocError> {
-        self.errors.extend(error)
+        if let Some(code) = error {
+            let count = self.errors.entry(code)?.or_insert(0);
+            *count = count.saturating_add(1);
+        }
+        Ok(())
     }
 
     // An attribute without a prefix is meant to have no namespace, so it is no stray.
@@ -103,31 +108,19 @@ impl fmt::Display for Named<'_, &[Stray]> {
     }
 }
 
-// The errors that a declaration or a look-up can have.
-const KINDS: [ErrorCode; 5] = [
-    ErrorCode::XmlnsUriDeclared,
-    ErrorCode::XmlPrefixDeclared,
-    ErrorCode::XmlnsPrefixDeclared,
-    ErrorCode::DeclaredTwice,
-    ErrorCode::UnboundPrefix,
-];
-
-// How often each error came.
+// How often each error came, by the numbers of the errors.
 #[derive(Clone, Copy)]
-struct Errors<'a>(&'a [ErrorCode]);
+struct Errors<'a>(&'a BTreeMap<ErrorCode, usize>);
 
 impl fmt::Display for Errors<'_> {
     fn fmt<W: fmt::Write>(&self, f: &mut fmt::Formatter<W>) -> fmt::Result {
         if self.0.is_empty() {
             return f.write_str("    none\n");
         }
-        for code in KINDS {
-            let count = self.0.iter().filter(|error| **error == code).count();
-            if count > 0 {
-                let number = code.number();
-                let words = error_words(code);
-                writeln!(f, "    {number}, {words}: {count}")?;
-            }
+        for (code, count) in self.0 {
+            let number = code.number();
+            let words = error_words(*code);
+            writeln!(f, "    {number}, {words}: {count}")?;
         }
         Ok(())
     }
@@ -149,7 +142,7 @@ impl fmt::Display for Named<'_, &Tally> {
         )?;
         let strays = self.with(strays.as_slice());
         write!(f, "  names in no namespace:\n{strays}")?;
-        let errors = Errors(errors.as_slice());
+        let errors = Errors(errors);
         write!(f, "  errors:\n{errors}")
     }
 }

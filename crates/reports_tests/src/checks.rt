@@ -9,29 +9,34 @@ fn parts(report: &Report) -> Result<(&str, &str), Fail> {
     Ok(parts.ok_or("no summary")?)
 }
 
-// The lines before the summary. The listing is read to its end.
+// The report of a listing that is read to its end.
+fn read(rt: &(impl AllocGlobal + Abort), listing: &[u8]) -> Result<Report, Fail> {
+    let report = scopes_report(rt.alloc(), listing)?;
+    assert!(rt; report.complete);
+    Ok(report)
+}
+
+// The lines before the summary.
 pub(crate) fn check_tags(
     rt: &(impl AllocGlobal + Abort),
     listing: &[u8],
     wanted: &str,
 ) -> Result<(), Fail> {
-    let report = scopes_report(rt.alloc(), listing)?;
+    let report = read(rt, listing)?;
     let (tags, _) = parts(&report)?;
     assert_eq!(rt; tags, wanted);
-    assert!(rt; report.complete);
     Ok(())
 }
 
-// The summary without its first line. The listing is read to its end.
+// The summary without its first line.
 pub(crate) fn check_summary(
     rt: &(impl AllocGlobal + Abort),
     listing: &[u8],
     wanted: &str,
 ) -> Result<(), Fail> {
-    let report = scopes_report(rt.alloc(), listing)?;
+    let report = read(rt, listing)?;
     let (_, summary) = parts(&report)?;
     assert_eq!(rt; summary, wanted);
-    assert!(rt; report.complete);
     Ok(())
 }
 

@@ -12,7 +12,7 @@ use Rattle.scopes.specs.declared.bindings.Found.{Found}
 use Rattle.scopes.specs.Prefixes.{same}
 use Rattle.scopes.specs.Rows.{in_row, nearest}
 use Rattle.scopes.specs.Stacks.{stacked, climbs}
-use Rattle.scopes.proofs.Stacking.{length-stacked, top}
+use Rattle.scopes.proofs.Stacking.{length_stacked, top}
 
 -- what is read past the end of a row
 abbrev pub blank : Binding
@@ -57,7 +57,7 @@ row_found_at k bs p r h =
 -- the innermost of n + 1 rows
 rows_more : (s : List ℕ) (xs : List Binding) (n e : ℕ) (p : Option Name) → nearest (stacked s xs (suc n) e) p ≡ option_or (in_row n 0 (between (get_or s n 0) e xs) p) (nearest (stacked s xs n (get_or s n 0)) p)
 rows_more s xs n e p =
-    ap (λ k. option_or (in_row k 0 (between (get_or s n 0) e xs) p) (nearest (stacked s xs n (get_or s n 0)) p)) (length-stacked s xs n (get_or s n 0))
+    ap (λ k. option_or (in_row k 0 (between (get_or s n 0) e xs) p) (nearest (stacked s xs n (get_or s n 0)) p)) (length_stacked s xs n (get_or s n 0))
 
 -- the last of the starts that are left
 record Last (s left front : List ℕ) (start : ℕ) : Type 0 where

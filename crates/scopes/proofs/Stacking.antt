@@ -1,6 +1,7 @@
 -- What a change of the arrays means for the rows that they hold. Assumes nothing.
 use Rattle.std.proofs.Common.{◌≡◌, ℕ, zero, suc, ◌+◌, ◌-◌, ◌<◌, ◌≤◌, true, ◌&&◌, leb, ◌≢◌, List, [], ◌∷◌, ◌++◌, length, get_or, take, drop, set, Ok, Err, sym, refl, ap, ◌∙◌, add-one, arith, length-set}
 use Rattle.std.specs.List.{between}
+use Rattle.std.proofs.lemmas.List.Sums.{sum_by-cons}
 use Rattle.std.proofs.lemmas.List.Edits.{between_none, between_more, length-between}
 use Rattle.std.proofs.lemmas.List.{get_or-set_same, get_or-set_other, take-set-le, drop-set-add}
 use Rattle.std.proofs.lemmas.Bool.{and_parts, and_from, leb-true, le-leb, eqb-true, cond-true, cond-false, lt-ltb, le-ltb}
@@ -22,15 +23,16 @@ pub above_bottom : (b : ℕ) (s : List ℕ) (n e : ℕ) → climbs b s n e ≡ t
 above_bottom b s zero e h = omega (arith, eqb-true b e h)
 above_bottom b s (suc n) e h = let t = top b s n e h in omega (arith, t.low, above_bottom b s n (get_or s n 0) t.on)
 
-pub length-stacked : {A : Type 0} (s : List ℕ) (xs : List A) (n e : ℕ) → length (stacked s xs n e) ≡ n
-length-stacked s xs zero e = refl
-length-stacked s xs (suc n) e = ap suc (length-stacked s xs n (get_or s n 0))
+pub length_stacked : {A : Type 0} (s : List ℕ) (xs : List A) (n e : ℕ) → length (stacked s xs n e) ≡ n
+length_stacked s xs zero e = refl
+length_stacked s xs (suc n) e = ap suc (length_stacked s xs n (get_or s n 0))
 
-pub size-stacked : (b : ℕ) (s : List ℕ) (xs : List Binding) (n e : ℕ) → climbs b s n e ≡ true → e ≤ length xs → b + size (stacked s xs n e) ≡ e
-size-stacked b s xs zero e h le = omega (arith, eqb-true b e h)
-size-stacked b s xs (suc n) e h le =
+pub size_stacked : (b : ℕ) (s : List ℕ) (xs : List Binding) (n e : ℕ) → climbs b s n e ≡ true → e ≤ length xs → b + size (stacked s xs n e) ≡ e
+size_stacked b s xs zero e h le = omega (arith, eqb-true b e h)
+size_stacked b s xs (suc n) e h le =
     let t = top b s n e h in
-    omega (arith, t.low, length-between xs (get_or s n 0) e le, size-stacked b s xs n (get_or s n 0) t.on (omega arith))
+    let f = get_or s n 0 in
+    omega (arith, t.low, sum_by-cons length (between f e xs) (stacked s xs n f), length-between xs f e le, size_stacked b s xs n f t.on (omega arith))
 
 -- a start that is not read does not matter
 stacked_starts : {A : Type 0} (s : List ℕ) (xs : List A) (n e k v : ℕ) → n ≤ k → stacked (set s k v) xs n e ≡ stacked s xs n e
@@ -94,9 +96,9 @@ add_stacked b s xs (suc n) e y some h lt le =
     let row : between f (e + 1) (set xs e y) ≡ between f e xs ++ y ∷ [] =
     between_more (set xs e y) f e y t.low long ∙ (λ i. between-set xs f e e y t.low (omega arith) i ++ here i ∷ []) in
     ap Ok (λ i. row i ∷ stacked_entries b s xs n f e y t.on t.low i)
-    ∙ sym (cond-true _ _ _ (lt-ltb (b + size (stacked s xs (suc n) e)) 256 (omega (arith, size-stacked b s xs (suc n) e h (omega arith)))))
+    ∙ sym (cond-true _ _ _ (lt-ltb (b + size (stacked s xs (suc n) e)) 256 (omega (arith, size_stacked b s xs (suc n) e h (omega arith)))))
 
 pub add_full : (b : ℕ) (s : List ℕ) (xs : List Binding) (n e : ℕ) (y : Binding) → (n ≡ 0 → ⊥) → climbs b s n e ≡ true → 256 ≤ e → e ≤ length xs → Err TooManyBindings ≡ added b (stacked s xs n e) y
 add_full b s xs zero e y some h ge le = absurd (some refl)
 add_full b s xs (suc n) e y some h ge le =
-    sym (cond-false _ _ _ (le-ltb (b + size (stacked s xs (suc n) e)) 256 (omega (arith, size-stacked b s xs (suc n) e h le))))
+    sym (cond-false _ _ _ (le-ltb (b + size (stacked s xs (suc n) e)) 256 (omega (arith, size_stacked b s xs (suc n) e h le))))

@@ -18,8 +18,8 @@ abbrev pub declaring : Option Name → Declares
 declaring p = record { 0 = p }
 
 -- `xmlns:L` declares L, and `xmlns` without a prefix the absent prefix (2 is the number of `xmlns`); no other declares
-abbrev pub role_of : QualName → Option Declares
-role_of q =
+abbrev pub declared_by : QualName → Option Declares
+declared_by q =
     elim q.prefix [
       | None ↦ cond (q.local.0 == 2) (Some (declaring None)) None
       | Some p ↦ cond (p.0 == 2) (Some (declaring (Some q.local))) None

@@ -1,5 +1,6 @@
 -- Prefixes, those that are reserved, and the bindings that are built in. Assumes nothing.
-use Rattle.std.specs.Prelude.{ℕ, zero, suc, Bool, true, false, not, ◌&&◌, ◌||◌, List, [], ◌∷◌, Some, None, Option, ◌==◌}
+use Rattle.std.specs.Prelude.{ℕ, zero, suc, Bool, true, false, not, ◌||◌, List, [], ◌∷◌, Some, None, Option, ◌==◌}
+use Rattle.std.specs.List.{list_all}
 use Rattle.names.specs.declared.qualified.Name.{Name}
 use Rattle.names.specs.Names.{numbered}
 use Rattle.scopes.specs.declared.bindings.Binding.{Binding}
@@ -11,7 +12,7 @@ same None (Some n) = false
 same (Some m) None = false
 same (Some m) (Some n) = m.0 == n.0
 
--- the name with the number n
+-- whether it is there, and is the name with the number n
 abbrev pub named : ℕ → Option Name → Bool
 named n None = false
 named n (Some m) = m.0 == n
@@ -22,12 +23,10 @@ reserved p = named 1 p || named 2 p
 
 -- no binding of a row is of a reserved prefix
 abbrev pub free_row : List Binding → Bool
-free_row [] = true
-free_row (b ∷ bs) = not (reserved b.prefix) && free_row bs
+free_row row = list_all (λ b. not (reserved b.prefix)) row
 
 abbrev pub free : List (List Binding) → Bool
-free [] = true
-free (row ∷ rows) = free_row row && free rows
+free rows = list_all free_row rows
 
 -- in a table with built-in bindings no row has a reserved prefix; n is how many are built in
 abbrev pub keeps_free : ℕ → List (List Binding) → Bool

@@ -1,6 +1,6 @@
 -- Rows of bindings, one for each open element, innermost first: how they change, and the look-up in them. Assumes nothing.
 use Rattle.std.specs.Prelude.{ℕ, zero, suc, ◌+◌, Bool, false, cond, List, [], ◌∷◌, ◌++◌, length, Some, None, Ok, Err, Option, Result, nat_lt}
-use Rattle.std.specs.List.{list_any}
+use Rattle.std.specs.List.{list_any, sum_by}
 use Rattle.std.specs.Option.{option_or}
 use Rattle.names.specs.declared.qualified.Name.{Name}
 use Rattle.scopes.specs.declared.bindings.Binding.{Binding}
@@ -11,8 +11,7 @@ use Rattle.scopes.specs.Prefixes.{same, reserved}
 
 -- the bindings of all rows, counted
 abbrev pub size : List (List Binding) → ℕ
-size [] = 0
-size (row ∷ rows) = length row + size rows
+size rows = sum_by length rows
 
 -- a new innermost row: at most 128
 abbrev pub opened : List (List Binding) → Result (List (List Binding)) ScopeFault
@@ -28,7 +27,7 @@ abbrev pub refuses : ℕ → Option Name → Bool
 refuses zero p = false
 refuses (suc n) p = reserved p
 
--- the same in a table of n built-in bindings, which takes none of a prefix that it refuses
+-- the same as `added`, in a table of n built-in bindings, which takes none of a prefix that it refuses
 abbrev pub declared : ℕ → List (List Binding) → Binding → Result (List (List Binding)) ScopeFault
 declared n rows b = cond (refuses n b.prefix) (Err Reserved) (added n rows b)
 

@@ -1,6 +1,6 @@
 // Which attributes are declarations, and what comes of one.
 ghost use Rattle.std.specs.Prelude.{◌≡◌};
-ghost use Rattle.scopes.specs.Declarations.{role_of, weighed, AcceptsUnreserved};
+ghost use Rattle.scopes.specs.Declarations.{declared_by, weighed, AcceptsUnreserved};
 ghost use Rattle.scopes.specs.Rows.{binds};
 
 use crate::bindings::Binding;
@@ -19,8 +19,8 @@ pub enum Effect {
 }
 
 // `xmlns:L` declares L, and `xmlns` without a prefix the absent prefix. All other attributes are ordinary ones.
-pub fn role_of(name: QualName) -> Option<Declares>
-    ensures { result ≡ role_of name }
+pub fn declared_by(name: QualName) -> Option<Declares>
+    ensures { result ≡ declared_by name }
 {
     match name.prefix {
         Some(Name::XMLNS) => Some(Declares(Some(name.local))),
@@ -69,6 +69,7 @@ fn verdict_of(tag: &[Binding], prefix: Option<Name>, value: &[u8]) -> Result<Eff
 
 // Weighs the declaration of `prefix` by its value: what it does, or the error that is noted. `tag` has the declarations
 // of the same tag that were accepted before it.
+#[tactic(auto, using(crate::proofs::Weighing::accepts))]
 pub fn weigh(tag: &[Binding], prefix: Option<Name>, value: &[u8]) -> Result<Effect, ErrorCode>
     ensures value { result ≡ weighed tag.now prefix value.now }
     ensures unreserved { AcceptsUnreserved tag.now prefix value.now result }

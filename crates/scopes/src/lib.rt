@@ -9,6 +9,6 @@ mod stack;
 mod tables;
 
 pub use bindings::{Binding, Found, Lookup};
-pub use declarations::{Declares, Effect, role_of, weigh};
+pub use declarations::{Declares, Effect, declared_by, weigh};
 pub use faults::ScopeFault;
 pub use tables::{MOST_BINDINGS, ScopeTable, Scopes, SerializerScopes};

@@ -1,4 +1,4 @@
-// Tests of a prefix.
+// A test of a prefix.
 ghost use Rattle.std.specs.Prelude.{◌≡◌};
 ghost use Rattle.scopes.specs.Prefixes.{reserved};
 

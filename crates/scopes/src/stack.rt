@@ -2,7 +2,7 @@
 ghost use Rattle.std.specs.Prelude.{◌≡◌, ◌≤◌, take};
 ghost use Rattle.scopes.specs.Pushing.{pushed};
 
-// The first `len` of the items count. There is no heap here, so a vector cannot take its place.
+// The first `len` of the items count. A vector would take memory, and an `ArrayVec` is not copied.
 #[derive(Clone, Copy)]
 pub(crate) struct Stack<T, const N: usize> {
     pub(crate) items: [T; N],

@@ -1,6 +1,6 @@
 // Declarations: which attributes they are, and each line of the chain by which one is weighed.
 use names::{ErrorCode, Name, QualName, XML_URI, XMLNS_URI};
-use scopes::{Binding, Declares, Effect, role_of, weigh};
+use scopes::{Binding, Declares, Effect, declared_by, weigh};
 
 const A: Name = Name(6);
 
@@ -21,22 +21,22 @@ fn weighed(tag: &[Binding], prefix: Option<Name>, value: &[u8]) -> Result<Effect
 fn declarations_are_told_by_their_names(rt: HostRuntime) {
     assert!(rt;
         matches!(
-            role_of(attribute(Some(Name::XMLNS), A)),
+            declared_by(attribute(Some(Name::XMLNS), A)),
             Some(Declares(Some(Name(6))))
         )
     );
-    assert!(rt; matches!(role_of(attribute(None, Name::XMLNS)), Some(Declares(None))));
+    assert!(rt; matches!(declared_by(attribute(None, Name::XMLNS)), Some(Declares(None))));
     // `xmlns:` declares the present empty prefix
     assert!(rt;
         matches!(
-            role_of(attribute(Some(Name::XMLNS), Name::EMPTY)),
+            declared_by(attribute(Some(Name::XMLNS), Name::EMPTY)),
             Some(Declares(Some(Name(0))))
         )
     );
     // a present empty prefix with the local name `xmlns` declares nothing, nor does `a:xmlns`
-    assert!(rt; role_of(attribute(Some(Name::EMPTY), Name::XMLNS)).is_none());
-    assert!(rt; role_of(attribute(Some(A), Name::XMLNS)).is_none());
-    assert!(rt; role_of(attribute(None, A)).is_none());
+    assert!(rt; declared_by(attribute(Some(Name::EMPTY), Name::XMLNS)).is_none());
+    assert!(rt; declared_by(attribute(Some(A), Name::XMLNS)).is_none());
+    assert!(rt; declared_by(attribute(None, A)).is_none());
 }
 
 #[test]

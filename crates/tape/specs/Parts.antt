@@ -1,12 +1,11 @@
 -- The texts that the words of a token stand for: they lie one after another in the tape's text. Assumes nothing.
 use Rattle.std.specs.Prelude.{ℕ, ◌+◌, cond, List, [], ◌∷◌, Some, None, Option, nat_le, slice_index, drop}
-use Rattle.std.specs.List.{between}
+use Rattle.std.specs.List.{between, sum_by}
 use Rattle.tape.specs.Words.{payload_of, is_text}
 
 -- how many bytes the texts of the words have together: an absent one has none, as its payload is 0
 abbrev pub total : List ℕ → ℕ
-total [] = 0
-total (w ∷ ws) = payload_of w + total ws
+total ws = sum_by payload_of ws
 
 -- where the texts of the words end that begin at a place of a text of n bytes, if they all lie in it
 abbrev pub text_end : List ℕ → ℕ → ℕ → Option ℕ

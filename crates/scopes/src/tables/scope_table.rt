@@ -4,8 +4,7 @@ ghost use Rattle.scopes.specs.Lookups.{built_in, declared_or, on_tag, look};
 ghost use Rattle.scopes.specs.Scoping.{Scoped, OnlyScoped};
 ghost use Rattle.scopes.specs.Tables.{rows_of};
 
-use super::methods::find_in;
-use super::{MOST_BINDINGS, ScopeTable};
+use super::{MOST_BINDINGS, ScopeTable, find_in};
 use crate::bindings::{Binding, Found, Lookup};
 use crate::prefixes::is_reserved;
 use names::Name;
@@ -52,6 +51,7 @@ impl ScopeTable {
     }
 
     // What the open elements and the built-in bindings say of a prefix.
+    #[tactic(auto, using(crate::proofs::Reserving::look_found))]
     fn find_open(&self, prefix: Option<Name>) -> Lookup
         ensures { result ≡ look (rows_of self.now) prefix }
     {

@@ -21,6 +21,7 @@ impl SerializerScopes {
     }
 
     // The binding of a prefix that is in force, if one was written.
+    #[tactic(auto, using(crate::proofs::Relating::answered))]
     pub fn find(&self, prefix: Option<Name>) -> Option<Found>
         ensures value { result ≡ nearest (rows_of self.now) prefix }
         ensures scoped { Answered (rows_of self.now) prefix result }
