@@ -96,6 +96,7 @@ struct Pieces<'a> {
     rest: IntoIter<Piece<'a>>,
 }
 
+// Each of these gives another type, and expects something else.
 impl Pieces<'_> {
     fn name(&mut self) -> Result<ListedName, ListingFault> {
         match self.rest.next() {
@@ -134,6 +135,7 @@ impl Pieces<'_> {
         }
     }
 
+    // The keyword decides which pieces follow.
     fn token(&mut self, keyword: Keyword) -> Result<ListedToken, ListingFault> {
         match keyword {
             Keyword::Tag(kind) => Ok(ListedToken::Tag(ListedTag {

@@ -1,4 +1,4 @@
-// The tokens that a listing holds.
+// The tokens that a listing holds. They have their texts, where those of a tape have the numbers of a name table.
 use std::fmt;
 
 #[derive(Clone, Copy, Debug, PartialEq, Eq)]

@@ -57,7 +57,8 @@ pub struct Refusal {
     pub place: u64,
 }
 
-// The limit that a new text would pass. `held` is how many names the table holds.
+// The limit that a new text would pass. Both are one refusal, but a person wants to know which it was. `held` is how many
+// names the table holds.
 #[derive(Clone, Copy)]
 pub enum NameFault {
     TooManyNames { held: usize },

@@ -12,7 +12,8 @@ use crate::refusals::NameFault;
 use crate::store::{MOST_BYTES, MOST_NAMES, TextStore};
 use std::alloc::{AllocError, Global};
 
-// Every table begins with the six built-in names, and no text stands in it twice, as in every store.
+// Every table begins with the six built-in names, and no text stands in it twice, as in every store. It has no model:
+// that would hide `known` and the store's facts, which hold of every table that a caller has.
 #[derive(Drop)]
 pub struct NameTable {
     store: TextStore,

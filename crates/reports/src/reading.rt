@@ -176,6 +176,7 @@ impl Reading {
         Ok(())
     }
 
+    // Like the declarations, but the tally keeps the names that have no namespace.
     fn print_names(&mut self, resolved: &[Resolved]) -> Result<(), AllocError> {
         for name in resolved {
             writeln!(self.out, "  {}", Named::new(&self.names, *name))?;

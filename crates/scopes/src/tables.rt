@@ -20,7 +20,8 @@ const MOST_ROWS: usize = 128;
 
 // A row of bindings for each open element. The first BUILT_IN entries belong to no row. Above them the rows stand one
 // after another, each known by where it starts, and the innermost last. Where something is built in, no row binds `xml`
-// or `xmlns`: so every such table resolves these two to their own namespaces.
+// or `xmlns`: so every such table resolves these two to their own namespaces. A table is copied and forgets what stands
+// past its end, so it cannot have a model.
 #[derive(Clone, Copy)]
 pub struct Scopes<const BUILT_IN: usize> {
     entries: Stack<Binding, MOST_BINDINGS>,

@@ -2,7 +2,7 @@
 ghost use Rattle.std.specs.Prelude.{◌≡◌, ◌+◌, ◌^◌, ◌<◌, ◌≤◌, length};
 
 // The words that are left with the index of the first of them, and the text with the place at which its next part
-// begins.
+// begins. It is copied and holds references, so it cannot have a model.
 #[derive(Clone, Copy)]
 pub struct Tape<'w, 't> {
     pub(crate) words: &'w [u32],

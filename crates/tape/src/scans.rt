@@ -44,7 +44,8 @@ fn skip_slots<'w>(words: &'w [u32], slots: &[Slot]) -> Result<&'w [u32], TapeCau
     Ok(rest)
 }
 
-// The words after those of some attributes. However many are announced, it ends with the words.
+// The words after those of some attributes. However many are announced, it ends with the words. Of a fold over the count
+// the proof would not know which words each step leaves.
 #[tactic(auto, using(crate::proofs::Scanning::one_attribute))]
 fn skip_attributes(words: &[u32], count: usize) -> Result<&[u32], TapeCause>
     ensures { rest_of result ≡ after (attribute_slots count) words.now }

@@ -32,7 +32,7 @@ pub struct Doctype<'t> {
 }
 
 // The texts are parts of the tape's text, not copies. The attributes of a tag lie at the front of the table that the
-// reader was lent, and the token says how many there are.
+// reader was lent, and the token says how many there are: a slice of them would keep that table lent.
 #[derive(Clone, Copy)]
 pub enum Token<'t> {
     Tag { tag: Tag, count: usize },
