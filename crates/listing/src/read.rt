@@ -135,7 +135,8 @@ impl Pieces<'_> {
         }
     }
 
-    // The keyword decides which pieces follow.
+    // The keyword decides which pieces follow. Each arm reads other pieces into another token, so a table would be no
+    // plainer.
     fn token(&mut self, keyword: Keyword) -> Result<ListedToken, ListingFault> {
         match keyword {
             Keyword::Tag(kind) => Ok(ListedToken::Tag(ListedTag {

@@ -100,6 +100,6 @@ pub(crate) fn outline(heap: Global, line: &[u8]) -> Result<String, ListingFault>
         }
         Ok(None) => Ok(String::from_str(heap, "skipped")?),
         Err(ListingFault::Expected(expected)) => Ok(format!(in heap; "expected {expected}")?),
-        Err(ListingFault::Memory) => Err(ListingFault::Memory),
+        Err(memory) => Err(memory),
     }
 }

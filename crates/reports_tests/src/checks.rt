@@ -52,7 +52,7 @@ pub(crate) fn check_stopped(
     Ok(())
 }
 
-// A report too long to be written out has this part.
+// A report too long to be written out has this part. There is a text whether the listing was read to its end or not.
 pub(crate) fn check_part(
     rt: &(impl AllocGlobal + Abort),
     listing: &str,

@@ -2,8 +2,8 @@
 ghost use Rattle.std.specs.Prelude.{◌≡◌, ◌≤◌, take};
 ghost use Rattle.scopes.specs.Pushing.{pushed};
 
-// The first `len` of the items count. A vector would take memory, and an `ArrayVec` is not copied. The bounds on `len` are
-// ghost fields of the tables, since `Clone` is derived only where there are none.
+// The first `len` of the items count. A vector would take memory, and an `ArrayVec` is not copied. The bounds on `len`
+// are ghost fields of the tables: a type with a parameter T derives no `Clone` beside a ghost field.
 #[derive(Clone, Copy)]
 pub(crate) struct Stack<T, const N: usize> {
     pub(crate) items: [T; N],

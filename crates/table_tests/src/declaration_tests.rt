@@ -25,7 +25,12 @@ fn declarations_are_told_by_their_names(rt: HostRuntime) {
             Some(Declares(Some(Name(6))))
         )
     );
-    assert!(rt; matches!(declared_by(attribute(None, Name::XMLNS)), Some(Declares(None))));
+    assert!(rt;
+        matches!(
+            declared_by(attribute(None, Name::XMLNS)),
+            Some(Declares(None))
+        )
+    );
     // `xmlns:` declares the present empty prefix
     assert!(rt;
         matches!(

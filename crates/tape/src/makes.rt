@@ -35,7 +35,7 @@ pub(crate) fn is_crowded(head: Head, room: usize) -> bool
 // of its two loans it leaves alone.
 
 // A tag with its attributes. The names are all entered before the table is written to, so that one that is refused leaves
-// it as it was.
+// it as it was. Until then the attributes stand in an array, since the reader has no heap.
 fn make_tag<'t>(
     kind: TagKind,
     count: usize,

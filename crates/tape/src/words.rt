@@ -64,7 +64,8 @@ impl Slot {
     }
 }
 
-// Only the first word of a tag has a payload: the number of the attributes.
+// The numbers of the kinds are the tape's format, given from outside. Only the first word of a tag has a payload: the
+// number of the attributes.
 impl TryFrom<u32> for Head {
     type Error = TapeCause;
 
