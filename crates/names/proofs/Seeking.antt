@@ -109,3 +109,10 @@ begins_push [] ts t h = refl
 begins_push (u ∷ us) [] t h = absurd (false≢true h)
 begins_push (u ∷ us) (x ∷ xs) t h =
     let p = and_parts (bytes_eq u x) (begins us xs) h in and_from _ _ p.0 (begins_push us xs t p.1)
+
+-- a name that stands first has the place that it has there
+pub begins_at : (us ts : List (List ℕ)) (n : ℕ) → begins us ts ≡ true → n < length us → get_or ts n [] ≡ get_or us n []
+begins_at [] ts n h lt = absurd (omega arith)
+begins_at (u ∷ us) [] n h lt = absurd (false≢true h)
+begins_at (u ∷ us) (x ∷ xs) zero h lt = sym ((bytes_eq-Decides u x).0 (and_parts (bytes_eq u x) (begins us xs) h).0)
+begins_at (u ∷ us) (x ∷ xs) (suc n) h lt = begins_at us xs n (and_parts (bytes_eq u x) (begins us xs) h).1 (omega arith)

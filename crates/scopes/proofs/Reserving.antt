@@ -8,7 +8,7 @@ use Rattle.scopes.specs.declared.bindings.Found.{Found}
 use Rattle.scopes.specs.declared.bindings.Lookup.{Lookup}
 use Rattle.scopes.specs.declared.bindings.Lookup.TheVariants.{Declared}
 use Rattle.scopes.specs.Prefixes.{same, reserved, free_row, free, keeps_free}
-use Rattle.scopes.specs.Rows.{size, refuses, added, in_row, nearest}
+use Rattle.scopes.specs.Rows.{size, refuses, added, closed, in_row, nearest}
 use Rattle.scopes.specs.Lookups.{built_in, declared_or, on_tag, look}
 use Rattle.scopes.proofs.Comparing.{same-Decides}
 
@@ -57,7 +57,7 @@ free_push [] b h n = and_from _ _ (not_from_false _ n) refl
 free_push (a ∷ bs) b h n =
     let p = and_parts (not (reserved a.prefix)) (free_row bs) h in and_from _ _ p.0 (free_push bs b p.1 n)
 
-free-added : (below : ℕ) (rows us : List (List Binding)) (b : Binding) → Ok us ≡ added below rows b → free rows ≡ true → reserved b.prefix ≡ false → free us ≡ true
+pub free-added : (below : ℕ) (rows us : List (List Binding)) (b : Binding) → Ok us ≡ added below rows b → free rows ≡ true → reserved b.prefix ≡ false → free us ≡ true
 free-added below [] us b e h n = cc
 free-added below (row ∷ rows) us b e h n =
     let p = and_parts (free_row row) (free rows) h in
@@ -68,6 +68,12 @@ free-added below (row ∷ rows) us b e h n =
           ap free same_rows ∙ and_from _ _ (free_push row b p.0 n) p.1
       | inr z ↦ let full = e ∙ cond-false _ _ _ z in cc
     ]
+
+-- and so does closing a row
+pub free-closed : (rows us : List (List Binding)) → Ok us ≡ closed rows → free rows ≡ true → free us ≡ true
+free-closed [] us e h = cc
+free-closed (row ∷ rows) us e h =
+    let same_rows : us ≡ rows = cc in ap free same_rows ∙ (and_parts (free_row row) (free rows) h).1
 
 -- so where no row has a reserved prefix, none has after a binding was added that is not refused
 pub keeps_free-added : (n : ℕ) (rows us : List (List Binding)) (b : Binding) → Ok us ≡ added n rows b → keeps_free n rows ≡ true → refuses n b.prefix ≡ false → keeps_free n us ≡ true

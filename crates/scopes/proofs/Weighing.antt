@@ -1,5 +1,5 @@
 -- What the chain of a declaration's weighing comes to. Assumes nothing.
-use Rattle.std.proofs.Common.{◌≡◌, ℕ, zero, suc, Bool, true, false, ◌||◌, List, [], ◌∷◌, Ok, Err, Decides, Option, sym, refl, ap, ◌∙◌, subst, inl, inr, arith}
+use Rattle.std.proofs.Common.{◌≡◌, ℕ, zero, suc, ◌+◌, Bool, true, false, ◌||◌, List, [], ◌∷◌, Ok, Err, is_some, Decides, Option, sym, refl, ap, ◌∙◌, subst, inl, inr, arith}
 use Rattle.std.specs.Str.{bytes_eq}
 use Rattle.std.proofs.lemmas.Slice.Eq.{bytes_eq-Decides}
 use Rattle.std.proofs.lemmas.Bool.{cond-true, cond-false, cases_Bool, or_parts, or_left, or_right, or_from, both_ways, false≢true}
@@ -10,13 +10,22 @@ use Rattle.scopes.specs.declared.bindings.Binding.{Binding}
 use Rattle.scopes.specs.declared.declarations.Effect.TheVariants.{Nothing}
 use Rattle.scopes.specs.Declarations.{Verdict, binds_or_undeclares, weighed, takes_effect, Unreserved, New, AcceptsUnreserved}
 use Rattle.scopes.specs.Prefixes.{same, named}
-use Rattle.scopes.specs.Rows.{binds}
+use Rattle.scopes.specs.Rows.{binds, in_row}
 use Rattle.scopes.proofs.Comparing.{same-Decides}
 
 skip : (x y : Bool) → x ≡ false → (x || y) ≡ y
 skip x y n = ap (λ b. b || y) n
 
--- a row binds p exactly if some binding of it is of p
+-- a row binds p exactly if a look-up in it finds p
+pub binds_found : (k i : ℕ) (bs : List Binding) (p : Option Name) → is_some (in_row k i bs p) ≡ binds bs p
+binds_found k i [] p = refl
+binds_found k i (b ∷ bs) p =
+    elim (cases_Bool (same b.prefix p)) [
+      | inl y ↦ ap is_some (cond-true _ _ _ y) ∙ sym (or_left _ _ y)
+      | inr n ↦ ap is_some (cond-false _ _ _ n) ∙ binds_found k (i + 1) bs p ∙ sym (skip (same b.prefix p) (binds bs p) n)
+    ]
+
+-- and exactly if some binding of it is of p
 not_new : (bs : List Binding) (p : Option Name) → binds bs p ≡ true → New bs p → ⊥
 not_new [] p h new = false≢true h
 not_new (b ∷ bs) p h new =
@@ -40,29 +49,29 @@ rejects r e no_way = (λ h. absurd (both_ways _ e h), λ x. absurd (no_way x))
 
 module _ (tag : List Binding) (p : Option Name) (v : List ℕ) where
   -- the lines of the chain, each under the failure of those before it
-  at_xmlns_uri : bytes_eq v xmlns_uri ≡ true → weighed tag p v ≡ Err XmlnsUriDeclared
+  pub at_xmlns_uri : bytes_eq v xmlns_uri ≡ true → weighed tag p v ≡ Err XmlnsUriDeclared
   at_xmlns_uri a = cond-true _ _ _ a
 
   module _ (a : bytes_eq v xmlns_uri ≡ false) where
-    at_xml : named 1 p ≡ true → bytes_eq v xml_uri ≡ true → weighed tag p v ≡ Ok Nothing
+    pub at_xml : named 1 p ≡ true → bytes_eq v xml_uri ≡ true → weighed tag p v ≡ Ok Nothing
     at_xml b d = cond-false _ _ _ a ∙ cond-true _ _ _ b ∙ cond-true _ _ _ d
 
-    at_xml_other : named 1 p ≡ true → bytes_eq v xml_uri ≡ false → weighed tag p v ≡ Err XmlPrefixDeclared
+    pub at_xml_other : named 1 p ≡ true → bytes_eq v xml_uri ≡ false → weighed tag p v ≡ Err XmlPrefixDeclared
     at_xml_other b d = cond-false _ _ _ a ∙ cond-true _ _ _ b ∙ cond-false _ _ _ d
 
     module _ (b : named 1 p ≡ false) where
-      at_xmlns : named 2 p ≡ true → weighed tag p v ≡ Err XmlnsPrefixDeclared
+      pub at_xmlns : named 2 p ≡ true → weighed tag p v ≡ Err XmlnsPrefixDeclared
       at_xmlns d = cond-false _ _ _ a ∙ cond-false _ _ _ b ∙ cond-true _ _ _ d
 
       module _ (d : named 2 p ≡ false) where
-        at_xml_uri : bytes_eq v xml_uri ≡ true → weighed tag p v ≡ Err XmlPrefixDeclared
+        pub at_xml_uri : bytes_eq v xml_uri ≡ true → weighed tag p v ≡ Err XmlPrefixDeclared
         at_xml_uri e = cond-false _ _ _ a ∙ cond-false _ _ _ b ∙ cond-false _ _ _ d ∙ cond-true _ _ _ e
 
         module _ (e : bytes_eq v xml_uri ≡ false) where
-          at_twice : binds tag p ≡ true → weighed tag p v ≡ Err DeclaredTwice
+          pub at_twice : binds tag p ≡ true → weighed tag p v ≡ Err DeclaredTwice
           at_twice f = cond-false _ _ _ a ∙ cond-false _ _ _ b ∙ cond-false _ _ _ d ∙ cond-false _ _ _ e ∙ cond-true _ _ _ f
 
-          at_end : binds tag p ≡ false → weighed tag p v ≡ binds_or_undeclares v
+          pub at_end : binds tag p ≡ false → weighed tag p v ≡ binds_or_undeclares v
           at_end f = cond-false _ _ _ a ∙ cond-false _ _ _ b ∙ cond-false _ _ _ d ∙ cond-false _ _ _ e ∙ cond-false _ _ _ f
 
   by_verdict : (r : Verdict) → weighed tag p v ≡ r → AcceptsUnreserved tag p v r → AcceptsUnreserved tag p v (weighed tag p v)

@@ -14,16 +14,16 @@ passed_by true ss ws rest ih e = omega (arith, ih e)
 passed_by false ss ws rest ih e = cc
 
 -- one by one, as many words as slots are passed
-passed_length : (ss : List Slot) (ws rest : List ℕ) → after ss ws ≡ Ok rest → length ws ≡ length ss + length rest
+pub passed_length : (ss : List Slot) (ws rest : List ℕ) → after ss ws ≡ Ok rest → length ws ≡ length ss + length rest
 passed_length [] ws rest e = let q : ws ≡ rest = cc in omega (arith, ap length q)
 passed_length (s ∷ ss) [] rest e = cc
 passed_length (s ∷ ss) (w ∷ ws) rest e = passed_by (takes s w) ss ws rest (passed_length ss ws rest) e
 
-attribute_slots_length : (n : ℕ) → length (attribute_slots n) ≡ 3 * n
+pub attribute_slots_length : (n : ℕ) → length (attribute_slots n) ≡ 3 * n
 attribute_slots_length zero = refl
 attribute_slots_length (suc n) = omega (arith, attribute_slots_length n)
 
-slots_length : (h : Head) → length (slots_of h) ≡ part_count h
+pub slots_length : (h : Head) → length (slots_of h) ≡ part_count h
 slots_length (head.Tag k n) = omega (arith, attribute_slots_length n)
 slots_length head.ShortTag = refl
 slots_length head.Comment = refl
@@ -35,8 +35,11 @@ slots_length head.EndOfFile = refl
 slots_length head.Error = refl
 
 -- there are as many parts as the first word says
+pub words_length : (h : Head) (rest ws : List ℕ) → Ok rest ≡ after (slots_of h) ws → length ws ≡ part_count h + length rest
+words_length h rest ws e = omega (arith, passed_length (slots_of h) ws rest (sym e), slots_length h)
+
 pub parts_length : (h : Head) (ws : List ℕ) (r : Result (Bor (List ℕ)) TapeCause) → rest_of r ≡ after (slots_of h) ws → IfOk r (λ rest. length ws ≡ part_count h + length rest.now)
-parts_length h ws (Ok rest) e = omega (arith, passed_length (slots_of h) ws rest.now (sym e), slots_length h)
+parts_length h ws (Ok rest) e = words_length h rest.now ws e
 parts_length h ws (Err f) e = tt
 
 -- the slots of the attributes that are left, one by one
