@@ -55,7 +55,7 @@ row_found_at k bs p r h =
     ]
 
 -- the innermost of n + 1 rows
-rows_more : (s : List ℕ) (xs : List Binding) (n e : ℕ) (p : Option Name) → nearest (stacked s xs (suc n) e) p ≡ option_or (in_row n 0 (between (get_or s n 0) e xs) p) (nearest (stacked s xs n (get_or s n 0)) p)
+pub rows_more : (s : List ℕ) (xs : List Binding) (n e : ℕ) (p : Option Name) → nearest (stacked s xs (suc n) e) p ≡ option_or (in_row n 0 (between (get_or s n 0) e xs) p) (nearest (stacked s xs n (get_or s n 0)) p)
 rows_more s xs n e p =
     ap (λ k. option_or (in_row k 0 (between (get_or s n 0) e xs) p) (nearest (stacked s xs n (get_or s n 0)) p)) (length_stacked s xs n (get_or s n 0))
 
