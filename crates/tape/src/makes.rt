@@ -35,24 +35,23 @@ pub(crate) fn is_crowded(head: Head, room: usize) -> bool
 // of its two loans it leaves alone.
 
 // A tag with its attributes. The names are all entered before the table is written to, so that one that is refused leaves
-// it as it was. Until then the attributes stand in an array, since the reader has no heap. The parts are handed over by
-// value: a token that enters no name then has none of them in memory.
+// it as it was. Until then the attributes stand in an array, since the reader has no heap.
 fn make_tag<'t>(
     kind: TagKind,
     count: usize,
-    mut parts: Parts,
+    parts: &mut Parts,
     names: &mut NameTable,
     attrs: &mut [Attribute],
 ) -> Result<Token<'t>, NameFault>
-    requires words { length parts.words ≡ 2 + 3 * count }
+    requires words { length parts.old.words ≡ 2 + 3 * count }
     requires few { count ≤ MOST_ATTRIBUTES }
     requires room { count ≤ length attrs.old }
-    ensures { let p = parts.entry in made_of result (texts names.new) attrs.new
+    ensures { let p = parts.old in made_of result (texts names.new) attrs.new
         ≡ tag_made kind p.words p.text p.at (texts names.old) attrs.old }
 {
-    let name = enter_name(names, &mut parts)?;
+    let name = enter_name(names, parts)?;
     let mut records = [BLANK; MOST_ATTRIBUTES];
-    enter_attributes(names, &mut parts, &mut records[..count])?;
+    enter_attributes(names, parts, &mut records[..count])?;
     attrs[..count].copy_from_slice(&records[..count]);
     Ok(Token::Tag {
         tag: Tag { kind, name },
@@ -74,7 +73,7 @@ pub(crate) fn make_token<'t>(
         ≡ token_made head p.words p.text p.at (texts names.old) attrs.old }
 {
     Ok(match head {
-        Head::Tag(kind, count) => make_tag(kind, count, parts, names, attrs)?,
+        Head::Tag(kind, count) => make_tag(kind, count, &mut parts, names, attrs)?,
         Head::ShortTag => Token::Tag {
             tag: Tag {
                 kind: TagKind::Short,

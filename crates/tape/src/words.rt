@@ -1,6 +1,6 @@
 // What one word of a tape says: its top 4 bits are its kind, and the 28 below are its payload.
 ghost use Rattle.std.specs.Prelude.{◌≡◌, ◌<◌};
-ghost use Rattle.tape.specs.Words.{kind_of, payload_of, is_text, takes, plain_head, head_of};
+ghost use Rattle.tape.specs.Words.{kind_of, payload_of, is_text, takes, head_of};
 
 use crate::faults::TapeCause;
 use crate::tokens::TagKind;
@@ -64,24 +64,6 @@ impl Slot {
     }
 }
 
-// What a first word says that has no payload. It is a match of its own: in one with the tags the payload would be tested
-// between its arms, and a token of one word would take a third more time.
-fn plain_head(kind: u32) -> Result<Head, TapeCause>
-    ensures { result ≡ plain_head kind }
-{
-    match kind {
-        4 => Ok(Head::ShortTag),
-        5 => Ok(Head::Comment),
-        6 => Ok(Head::Characters),
-        7 => Ok(Head::Instruction),
-        8 => Ok(Head::Doctype),
-        9 => Ok(Head::NullCharacter),
-        10 => Ok(Head::EndOfFile),
-        11 => Ok(Head::Error),
-        _ => Err(TapeCause::WrongWord),
-    }
-}
-
 // The numbers of the kinds are the tape's format, given from outside. Only the first word of a tag has a payload: the
 // number of the attributes.
 impl TryFrom<u32> for Head {
@@ -96,7 +78,15 @@ impl TryFrom<u32> for Head {
             2 => Ok(Head::Tag(TagKind::End, payload)),
             3 => Ok(Head::Tag(TagKind::Empty, payload)),
             _ if payload != 0 => Err(TapeCause::WrongWord),
-            kind => plain_head(kind),
+            4 => Ok(Head::ShortTag),
+            5 => Ok(Head::Comment),
+            6 => Ok(Head::Characters),
+            7 => Ok(Head::Instruction),
+            8 => Ok(Head::Doctype),
+            9 => Ok(Head::NullCharacter),
+            10 => Ok(Head::EndOfFile),
+            11 => Ok(Head::Error),
+            _ => Err(TapeCause::WrongWord),
         }
     }
 }
